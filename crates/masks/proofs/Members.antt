@@ -100,3 +100,8 @@ in-counting a (suc n) w i = ⊎-elim (λ e. omega arith) (λ j. omega (arith, in
 pub counting-in : (a n w : ℕ) → a ≤ w → w < a + n → In w (counting a n)
 counting-in a zero w h l = absurd (omega arith)
 counting-in a (suc n) w h l = ⊎-elim (λ e. inl e) (λ e. inr (counting-in (a + 1) n w (omega arith) (omega arith))) (cases-eq w a)
+
+pub getD-in : {X : Type 0} (xs : List X) (i : ℕ) (d : X) → i < length xs → In (getD xs i d) xs
+getD-in [] i d l = absurd (omega arith)
+getD-in (x ∷ xs) zero d l = inl refl
+getD-in (x ∷ xs) (suc i) d l = inr (getD-in xs i d (omega arith))
