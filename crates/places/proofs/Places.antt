@@ -15,7 +15,6 @@ use Rattle.std.proofs.shelf.Tests.{and-parts, and-from, leb-true, ltb-true, lt-
 use Rattle.masks.specs.Lists.{In, units}
 use Rattle.masks.proofs.Members.{getD-in, in-kept, kept-in, in-counting, counting-in}
 use Rattle.places.specs.declared.shape.Shape.{Shape}
-use Rattle.places.specs.Answers.{hasPlace, sequenceAt, backAnswer, childAnswer, placeAnswer}
 use Rattle.places.specs.Numbers.{hasLevel}
 use Rattle.places.specs.Sequences.{among, absent, sequences, place, proper, lastOf, parentOf}
 use Rattle.places.specs.Units.{Shows, free}
@@ -23,7 +22,7 @@ use Rattle.places.proofs.Bounds.{wide, width-most}
 use Rattle.places.proofs.Free.{parent-place, free-absent}
 use Rattle.places.proofs.Index.{place-of, fans, level-digit, children-count}
 use Rattle.places.proofs.Levels.{level-length, level-root, level-cons, level-child}
-use Rattle.places.proofs.Shapes.{source-in}
+use Rattle.places.proofs.Shapes.{source-in, hasPlace, sequenceAt, backAnswer, childAnswer, placeAnswer}
 
 -- what it says that level k has a place i
 pub there : (shape : Shape) (k i : ℕ) → hasPlace shape k i ≡ true

@@ -17,7 +17,6 @@ use Rattle.masks.specs.Lists.{In, units}
 use Rattle.masks.specs.Masks.{holds, joinedBy}
 use Rattle.places.specs.declared.fault.PlaceFault.the-variants.{Absent}
 use Rattle.places.specs.declared.shape.Shape.{Shape}
-use Rattle.places.specs.Answers.{sequenceAt, begun, placeAnswer}
 use Rattle.places.specs.Numbers.{hasLevel}
 use Rattle.places.specs.Sequences.{among, absent, sequences, place, proper}
 use Rattle.places.specs.Units.{Shows, free}
@@ -25,7 +24,7 @@ use Rattle.places.proofs.Bounds.{wide, width-most}
 use Rattle.places.proofs.Free.{free-rank, free-few, free-absent, root-shows, child-shows}
 use Rattle.places.proofs.Index.{place-at, place-cons}
 use Rattle.places.proofs.Places.{proper-in}
-use Rattle.places.proofs.Shapes.{source-in}
+use Rattle.places.proofs.Shapes.{source-in, sequenceAt, begun, placeAnswer}
 
 proper-cons : (n s u : ℕ) (α : List ℕ) → 0 < length α → proper n s (u ∷ α) ≡ (ltb u n && (not (among α u) && proper n s α))
 proper-cons n s u [] l = absurd (omega arith)

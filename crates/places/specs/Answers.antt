@@ -30,45 +30,42 @@ shapeAnswer n source levels =
     (cond (sourceWrong n source) (Err Source)
     (ifThere (hasLevel 4 levels) (n, source, levels)))
 
-abbrev pub widthAnswer : Shape → ℕ → Result ℕ PlaceFault
-widthAnswer shape k = ifThere (hasLevel (shape .levels) k) (width (shape .n) k)
+abbrev pub widthAnswer : ℕ → ℕ → ℕ → Result ℕ PlaceFault
+widthAnswer n h k = ifThere (hasLevel h k) (width n k)
 
--- level k exists and has a place i
-abbrev pub hasPlace : Shape → ℕ → ℕ → Bool
-hasPlace shape k i = hasLevel (shape .levels) k && ltb i (width (shape .n) k)
+-- in trees of h levels, level k exists and has a place i
+abbrev pub hasPlace : ℕ → ℕ → ℕ → ℕ → Bool
+hasPlace n h k i = hasLevel h k && ltb i (width n k)
 
 -- the sequence at place i of level k, its last unit first
-abbrev pub sequenceAt : Shape → ℕ → ℕ → List ℕ
-sequenceAt shape k i = getD (level (shape .n) (shape .source) k) i []
+abbrev pub sequenceAt : ℕ → ℕ → ℕ → ℕ → List ℕ
+sequenceAt n s k i = getD (level n s k) i []
 
 -- the units of a sequence, the source first
 abbrev pub unitsOf : Sequence → List ℕ
 unitsOf sequence = take (sequence .level) (sequence .units)
 
-abbrev pub sequenceAnswer : Shape → ℕ → ℕ → Result (List ℕ) PlaceFault
-sequenceAnswer shape k i = ifThere (hasPlace shape k i) (reverse (sequenceAt shape k i))
+abbrev pub sequenceAnswer : ℕ → ℕ → ℕ → ℕ → ℕ → Result (List ℕ) PlaceFault
+sequenceAnswer n s h k i = ifThere (hasPlace n h k i) (reverse (sequenceAt n s k i))
 
 -- there is a level of as many units, and the first is the source
-abbrev pub begun : Shape → List ℕ → Bool
-begun shape us = hasLevel (shape .levels) (length us) && eqb (getD us 0 0) (shape .source)
+abbrev pub begun : ℕ → ℕ → List ℕ → Bool
+begun s h us = hasLevel h (length us) && eqb (getD us 0 0) s
 
 -- the place of a sequence that is given with the source first
-abbrev pub placeAnswer : Shape → List ℕ → Result ℕ PlaceFault
-placeAnswer shape us =
-    ifThere (hasLevel (shape .levels) (length us) && proper (shape .n) (shape .source) (reverse us)) (place (shape .n) (reverse us))
+abbrev pub placeAnswer : ℕ → ℕ → ℕ → List ℕ → Result ℕ PlaceFault
+placeAnswer n s h us = ifThere (hasLevel h (length us) && proper n s (reverse us)) (place n (reverse us))
 
 -- the last unit and the parent's place; the root has no way back
-abbrev pub backAnswer : Shape → ℕ → ℕ → Result (ℕ × ℕ) PlaceFault
-backAnswer shape k i =
-    ifThere (ltb 1 k && hasPlace shape k i)
-    (lastOf (sequenceAt shape k i), place (shape .n) (parentOf (sequenceAt shape k i)))
+abbrev pub backAnswer : ℕ → ℕ → ℕ → ℕ → ℕ → Result (ℕ × ℕ) PlaceFault
+backAnswer n s h k i =
+    ifThere (ltb 1 k && hasPlace n h k i) (lastOf (sequenceAt n s k i), place n (parentOf (sequenceAt n s k i)))
 
 -- child j ends in the j-th lowest absent unit and has place i (n - k) + j of level k + 1
-abbrev pub childAnswer : Shape → ℕ → ℕ → ℕ → Result (ℕ × ℕ) PlaceFault
-childAnswer shape k i j =
-    ifThere (hasPlace shape k i && (ltb k (shape .levels) && ltb j (shape .n - k)))
-    (getD (absent (shape .n) (sequenceAt shape k i)) j 0, i * (shape .n - k) + j)
+abbrev pub childAnswer : ℕ → ℕ → ℕ → ℕ → ℕ → ℕ → Result (ℕ × ℕ) PlaceFault
+childAnswer n s h k i j =
+    ifThere (hasPlace n h k i && (ltb k h && ltb j (n - k))) (getD (absent n (sequenceAt n s k i)) j 0, i * (n - k) + j)
 
 -- where level k of unit u begins
-abbrev pub entryAnswer : Shape → ℕ → ℕ → Result ℕ PlaceFault
-entryAnswer shape u k = ifThere (ltb u (shape .n) && hasLevel (shape .levels) k) (firstEntry (shape .n) (shape .levels) u k)
+abbrev pub entryAnswer : ℕ → ℕ → ℕ → ℕ → Result ℕ PlaceFault
+entryAnswer n h u k = ifThere (ltb u n && hasLevel h k) (firstEntry n h u k)

@@ -65,7 +65,7 @@ impl Shape {
 
     /// How many sequences a level has.
     pub fn width(self, level: u32) -> Result<u32, PlaceFault>
-        ensures value { λ r. ⌜ r ≡ widthAnswer self level ⌝ }
+        ensures value { λ r. ⌜ r ≡ widthAnswer (self .n) (self .levels) level ⌝ }
         ensures bound { λ r. ⌜ made r (λ wide. wide ≤ 6840) ⌝ }
     {
         if level < 1 || level > self.levels {
@@ -76,14 +76,14 @@ impl Shape {
 
     // Whether the level exists and has the place.
     fn has_place(self, level: u32, place: u32) -> bool
-        ensures { λ r. ⌜ r ≡ hasPlace self level place ⌝ }
+        ensures { λ r. ⌜ r ≡ hasPlace (self .n) (self .levels) level place ⌝ }
     {
         1 <= level && level <= self.levels && place < tabled_width(self.n, level)
     }
 
     /// The way back from a place: the last unit of its sequence, and the place of the parent. The root has none.
     pub fn way_back(self, level: u32, place: u32) -> Result<(u32, u32), PlaceFault>
-        ensures { λ r. ⌜ r ≡ backAnswer self level place ⌝ }
+        ensures { λ r. ⌜ r ≡ backAnswer (self .n) (self .source) (self .levels) level place ⌝ }
     {
         if level < 2 || !self.has_place(level, place) {
             return Err(PlaceFault::Absent);
@@ -94,8 +94,8 @@ impl Shape {
 
     /// The sequence at a place. Its own place is the one asked for.
     pub fn sequence(self, level: u32, place: u32) -> Result<Sequence, PlaceFault>
-        ensures value { λ r. ⌜ mapped unitsOf (λ e. e) r ≡ sequenceAnswer self level place ⌝ }
-        ensures back { λ r. ⌜ made r (λ found. placeAnswer self (unitsOf found) ≡ Ok place) ⌝ }
+        ensures value { λ r. ⌜ mapped unitsOf (λ e. e) r ≡ sequenceAnswer (self .n) (self .source) (self .levels) level place ⌝ }
+        ensures back { λ r. ⌜ made r (λ found. placeAnswer (self .n) (self .source) (self .levels) (unitsOf found) ≡ Ok place) ⌝ }
     {
         if !self.has_place(level, place) {
             return Err(PlaceFault::Absent);
@@ -105,7 +105,7 @@ impl Shape {
 
     // Whether the units are as many as a level's, and the first is the source.
     fn begins(self, units: &[u32]) -> bool
-        ensures { λ r. ⌜ r ≡ begun self (now (units .entry)) ⌝ }
+        ensures { λ r. ⌜ r ≡ begun (self .source) (self .levels) (now (units .entry)) ⌝ }
     {
         let many = units.len();
         1 <= many && many <= self.levels as usize && units[0] == self.source
@@ -113,8 +113,8 @@ impl Shape {
 
     /// The place of a sequence, which is given with the source first, in the level of as many units. The sequence at that place is the one given.
     pub fn place(self, units: &[u32]) -> Result<u32, PlaceFault>
-        ensures value { λ r. ⌜ r ≡ placeAnswer self (now (units .entry)) ⌝ }
-        ensures back { λ r. ⌜ made r (λ found. sequenceAt self (length (now (units .entry))) found ≡ reverse (now (units .entry))) ⌝ }
+        ensures value { λ r. ⌜ r ≡ placeAnswer (self .n) (self .source) (self .levels) (now (units .entry)) ⌝ }
+        ensures back { λ r. ⌜ made r (λ found. sequenceAt (self .n) (self .source) (length (now (units .entry))) found ≡ reverse (now (units .entry))) ⌝ }
     {
         if !self.begins(units) {
             return Err(PlaceFault::Absent);
@@ -134,8 +134,8 @@ impl Shape {
 
     /// Child j of the sequence at a place: the unit in which it ends, and its place of the next level.
     pub fn child(self, level: u32, place: u32, j: u32) -> Result<(u32, u32), PlaceFault>
-        ensures value { λ r. ⌜ r ≡ childAnswer self level place j ⌝ }
-        ensures stands { λ r. ⌜ made r (λ child. sequenceAt self (level + 1) (child .1) ≡ child .0 ∷ sequenceAt self level place) ⌝ }
+        ensures value { λ r. ⌜ r ≡ childAnswer (self .n) (self .source) (self .levels) level place j ⌝ }
+        ensures stands { λ r. ⌜ made r (λ child. sequenceAt (self .n) (self .source) (level + 1) (child .1) ≡ child .0 ∷ sequenceAt (self .n) (self .source) level place) ⌝ }
     {
         if level >= self.levels || !self.has_place(level, place) || j >= self.n - level {
             return Err(PlaceFault::Absent);
@@ -162,7 +162,7 @@ impl Shape {
 
     /// The first entry of a unit's level, in a memory of trees unit after unit, level after level.
     pub fn first_entry(self, unit: u32, level: u32) -> Result<u32, PlaceFault>
-        ensures value { λ r. ⌜ r ≡ entryAnswer self unit level ⌝ }
+        ensures value { λ r. ⌜ r ≡ entryAnswer (self .n) (self .levels) unit level ⌝ }
         ensures bound { λ r. ⌜ made r (λ entry. entry ≤ 152061) ⌝ }
     {
         if unit >= self.n || level < 1 || level > self.levels {

@@ -2,8 +2,8 @@ use mathlib.Core.Path.{sym, ap, _∙_}
 use native.Mathlib.Omega.{arith}
 use Rattle.std.specs.declared.result.Result.the-variants.{Ok}
 use Rattle.std.proofs.shelf.Tests.{cond-true}
-use Rattle.places.specs.Answers.{hasPlace}
 use Rattle.places.proofs.Places.{there, found-back}
+use Rattle.places.proofs.Shapes.{hasPlace}
 use Rattle.places.proofs.shape.Shape.sequence.Needs as need
 
 pub sequence-at-requires : need.sequence-at-requires

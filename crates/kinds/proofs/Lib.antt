@@ -1,0 +1,4 @@
+pub mod SameCode
+pub mod RangeFacts
+pub mod RightCodes
+pub mod TriggerCodes

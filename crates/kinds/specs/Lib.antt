@@ -1,0 +1,4 @@
+pub mod Models
+pub mod Ranges
+pub mod Rights
+pub mod Triggers

@@ -1,0 +1,86 @@
+//! Kinds of value: each value of a kind has a code, and a code is read back as its value.
+ghost use mathlib.Core.Path.{_≡_};
+ghost use Rattle.kinds.specs.Models.{KindModel, Lawful, same-value};
+
+mod right;
+mod trigger;
+
+pub use right::Minutes;
+pub use right::Right;
+pub use right::RightKind;
+pub use trigger::Slope;
+pub use trigger::Trigger;
+pub use trigger::TriggerKind;
+
+/// A kind of value that the units of a rack can agree on.
+pub trait Kind: Copy {
+    ghost model: { KindModel Self };
+
+    law lawful: { Lawful model };
+
+    /// The code of this value, below 2^31.
+    fn code(&self) -> u32
+        ensures { λ r. ⌜ r ≡ model .codeOf (now (self .entry)) ⌝ };
+
+    /// The value with this code, or nothing if the kind has none.
+    fn read(code: u32) -> Option<Self>
+        ensures { λ r. ⌜ r ≡ model .valueOf code ⌝ };
+
+    /// The ground value of the kind.
+    fn ground() -> Self
+        ensures { λ r. ⌜ r ≡ model .base ⌝ };
+
+    /// Whether the two values are the same, that is, whether their codes are equal.
+    fn same(&self, other: &Self) -> bool
+        ensures { λ r. ⌜ r ≡ same-value model (now (self .entry)) (now (other .entry)) ⌝ }
+    {
+        self.code() == other.code()
+    }
+}
+
+#[cfg(test)]
+mod tests {
+    use super::*;
+    use std::test::*;
+
+    // The code of what a code reads as.
+    fn read_back<K: Kind>(code: u32) -> Option<u32> {
+        match K::read(code) {
+            Some(v) => Some(v.code()),
+            None => None,
+        }
+    }
+
+    #[test]
+    fn operate_ends_at_sixty_minutes() -> Result<(), Fail> {
+        let Some(right) = Right::read(61) else {
+            return Err(Fail::new("61 does not read"));
+        };
+        match right {
+            Right::Operate(m) => check_eq(m.count, 60)?,
+            _ => return Err(Fail::new("61 is not to operate")),
+        }
+        check_eq(read_back::<Right>(62), None)
+    }
+
+    #[test]
+    fn trigger_has_its_code() -> Result<(), Fail> {
+        let Some(trigger) = Trigger::new(3, Slope::Falling, -5) else {
+            return Err(Fail::new("out of range"));
+        };
+        check_eq(trigger.code(), 22523)?;
+        check_eq(Trigger::ground().code(), 2048)?;
+        check(Trigger::new(5, Slope::Rising, 0).is_none())
+    }
+
+    #[test]
+    fn codes_read_back() -> Result<(), Fail> {
+        for code in [0, 1, 2, 61] {
+            check_eq(read_back::<Right>(code), Some(code))?;
+        }
+        for code in [0, 4096, 22523, 32767] {
+            check_eq(read_back::<Trigger>(code), Some(code))?;
+        }
+        check_eq(read_back::<Trigger>(32768), None)
+    }
+}
