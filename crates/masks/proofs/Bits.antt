@@ -1,7 +1,7 @@
 -- The bits of a mask: of a joined mask, past the top, counted, and all below a bound.
 use mathlib.Core.Path.{_≡_, refl, sym, ap, _∙_}
-use mathlib.Core.Logic.{inl, inr, ⊎-elim}
-use mathlib.Core.Bool.{Bool, true, false, not, cond, _||_, _&&_}
+use mathlib.Core.Logic.{⊎-elim}
+use mathlib.Core.Bool.{Bool, true, false, not, _||_, _&&_}
 use Prim.Native.Nat.{ℕ, zero, suc, _+_, _-_, _*_, _/_, _%_, _^_, _<_, _≤_, max}
 use native.Mathlib.Omega.{arith}
 use native.Mathlib.Nat.{pow-suc, div-eq-of-lt, zero-mul}
@@ -12,12 +12,12 @@ use lib.Dec.{eqb, ltb}
 use lib.Pow.{pow-mono, pow-pos}
 use Rattle.std.specs.shelf.Lists.{countBy}
 use Rattle.std.proofs.shelf.Bits.{shr-shr, shr-split, mod-pow-add, mod-below, div-below, le-div}
-use Rattle.std.proofs.shelf.Tests.{eqb-true, cases-bool, cases-lt, ne-eqb, eq-eqb, lt-ltb, le-ltb, ltb-true, or-cases, not-true, not-from-false, or-left, or-right, both-ways}
+use Rattle.std.proofs.shelf.Tests.{cases-bool, cases-lt, ne-eqb, eq-eqb, lt-ltb, le-ltb, ltb-true, or-cases, not-true, not-from-false, or-left, or-right, both-ways}
 use Rattle.std.proofs.shelf.Ways.{tells}
-use Rattle.masks.specs.Lists.{In, every, units}
+use Rattle.masks.specs.Lists.{units}
 use Rattle.masks.specs.Masks.{holds, joinedBy, size, within}
 use Rattle.masks.proofs.Counting.{num, count-more}
-use Rattle.masks.proofs.Members.{every-has, every-from, counting-in, in-counting}
+use Rattle.masks.proofs.Members.{every-has, every-from, counting-in}
 
 -- no bit past the top is set
 pub high-bit : (k m i : ℕ) → m < 2 ^ k → k ≤ i → holds m i ≡ false

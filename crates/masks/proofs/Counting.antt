@@ -1,17 +1,16 @@
 -- Counting the elements of a list that pass a test.
 use mathlib.Core.Path.{_≡_, refl, sym, ap, subst, _∙_}
 use mathlib.Core.List.{List, [], _∷_, _++_, map}
-use mathlib.Core.Bool.{Bool, true, false, not, cond, _&&_, _||_}
+use mathlib.Core.Bool.{Bool, true, false, cond}
 use mathlib.Core.Logic.{_⊎_, inl, inr, ⊎-elim}
-use Prim.Native.Nat.{ℕ, zero, suc, _+_, _-_, _*_, _≤_, _<_}
+use Prim.Native.Nat.{ℕ, _+_, _-_, _≤_, _<_}
 use native.Mathlib.Omega.{arith}
-use lib.Dec.{eqb, leb, ltb}
 use lib.ListN.{length}
 use Rattle.std.specs.Iters.{counting}
-use Rattle.std.specs.shelf.Lists.{countBy, sumBy, kept-by, joined}
+use Rattle.std.specs.shelf.Lists.{countBy, kept-by}
 use Rattle.std.proofs.shelf.Lists.{map-id}
 use Rattle.std.proofs.shelf.Sums.{sumBy-cons, sumBy-push}
-use Rattle.std.proofs.shelf.Tests.{eqb-true, cases-bool, both-ways, cond-both, eq-eqb, ne-eqb}
+use Rattle.std.proofs.shelf.Tests.{cases-bool, both-ways, cond-both}
 use Rattle.std.proofs.shelf.Counted.{map-counting-more}
 use Rattle.masks.specs.Lists.{In, units}
 

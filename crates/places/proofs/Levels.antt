@@ -1,14 +1,14 @@
 -- What stands in a level, and how many units a sequence leaves out.
 use mathlib.Core.Path.{_≡_, refl, sym, ap, subst, _∙_}
 use mathlib.Core.List.{List, [], _∷_, map}
-use mathlib.Core.Bool.{Bool, true, false, not, _||_}
+use mathlib.Core.Bool.{not}
 use mathlib.Core.Logic.{_⊎_, inl, inr, ⊎-elim}
 use Prim.Native.Nat.{ℕ, zero, suc, _+_, _≤_, _<_}
 use native.Mathlib.Omega.{arith}
 use lib.Dec.{eqb}
 use lib.ListN.{length}
 use Rattle.std.specs.Iters.{counting}
-use Rattle.std.specs.shelf.Lists.{countBy, kept-by, joined}
+use Rattle.std.specs.shelf.Lists.{countBy}
 use Rattle.std.proofs.shelf.Sums.{length-kept-by}
 use Rattle.std.proofs.shelf.Tests.{eqb-true, cases-bool, eq-eqb, ne-eqb, or-cases, or-left, or-right, not-true, not-from-false, both-ways}
 use Rattle.std.proofs.shelf.Counted.{length-counting}

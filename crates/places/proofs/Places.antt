@@ -1,16 +1,16 @@
 -- The answers of a shape, by the place of a sequence and by its way back.
-use mathlib.Core.Path.{_≡_, refl, sym, ap, ap₂, subst, _∙_}
+use mathlib.Core.Path.{_≡_, sym, ap, ap₂, subst, _∙_}
 use mathlib.Core.List.{List, [], _∷_, _++_, reverse}
 use mathlib.Core.Bool.{true, not, _&&_}
 use mathlib.Core.Logic.{inl}
-use Prim.Native.Nat.{ℕ, zero, suc, _+_, _-_, _*_, _/_, _%_, _≤_, _<_}
+use Prim.Native.Nat.{ℕ, zero, suc, _+_, _-_, _*_, _/_, _≤_, _<_}
 use native.Mathlib.Omega.{arith}
 use native.Mathlib.Nat.{mul-le-mul-right}
 use lib.Dec.{ltb}
 use lib.ListN.{length, getD}
 use Rattle.std.proofs.shelf.Lists.{reverse-reverse, reverse-append, length-reverse}
 use Rattle.std.proofs.shelf.Bits.{mul-le, div-mul-add, mod-mul-add}
-use Rattle.std.specs.declared.result.Result.the-variants.{Ok, Err}
+use Rattle.std.specs.declared.result.Result.the-variants.{Ok}
 use Rattle.std.proofs.shelf.Tests.{and-parts, and-from, leb-true, ltb-true, lt-ltb, le-leb, eqb-true, eq-eqb, cond-true}
 use Rattle.masks.specs.Lists.{In, units}
 use Rattle.masks.proofs.Members.{getD-in, in-kept, kept-in, in-counting, counting-in}

@@ -1,15 +1,15 @@
 -- A rule of a table is proved at all of its entries by one test that computes over the whole table.
 use mathlib.Core.Path.{_≡_, _∙_, subst, sym}
-use mathlib.Core.Bool.{Bool, true, false, _&&_}
+use mathlib.Core.Bool.{Bool, true, _&&_}
 use mathlib.Core.List.{List, [], _∷_}
 use Prim.Native.Nat.{ℕ, zero, suc, _+_, _-_, _<_, _≤_}
 use native.Mathlib.Nat.{add-zero, zero-add, add-suc, suc-add}
 use native.Mathlib.Omega.{arith}
-use lib.Dec.{eqb, leb}
+use lib.Dec.{eqb}
 use lib.ListN.{length, getD}
 use Rattle.std.proofs.shelf.Tests.{and-parts, eqb-true}
 use Rattle.places.specs.Tables.{each, ruled, isWidth}
-use Rattle.places.specs.Widths.{falling, width}
+use Rattle.places.specs.Widths.{width}
 
 from : {X : Type 0} (f : ℕ → X → Bool) (d : X) (xs : List X) (i : ℕ) → each f i xs ≡ true → (k : ℕ) → k < length xs → f (i + k) (getD xs k d) ≡ true
 from f d [] i t k h = absurd (omega arith)

@@ -1,9 +1,9 @@
 -- The blocks of a run: where each ends, and which stands at an index.
 use mathlib.Core.Path.{_≡_, refl, sym, ap, ap₂, _∙_}
-use mathlib.Core.Bool.{Bool, true, false, cond, _&&_, _||_}
+use mathlib.Core.Bool.{Bool, true, false, _&&_, _||_}
 use mathlib.Core.List.{List, [], _∷_, _++_}
-use mathlib.Core.Logic.{_⊎_, inl, inr, ⊎-elim}
-use Prim.Native.Nat.{ℕ, zero, suc, _+_, _-_, _*_, _/_, _%_, _≤_, _<_}
+use mathlib.Core.Logic.{_⊎_, ⊎-elim}
+use Prim.Native.Nat.{ℕ, zero, suc, _+_, _-_, _*_, _%_, _≤_, _<_}
 use native.Mathlib.Omega.{arith}
 use native.Mathlib.Nat.{mod-self, add-mod-right, mod-eq-of-lt, mul-mod-left}
 use lib.Dec.{eqb, ltb, leb}
@@ -11,9 +11,9 @@ use lib.ListN.{replicate}
 use Rattle.std.specs.shelf.Lists.{sum}
 use Rattle.std.specs.shelf.Maps.{nth}
 use Rattle.std.specs.declared.option.Option.the-variants.{Some, None}
-use Rattle.std.proofs.shelf.Sums.{sumBy-cons, sumBy-append}
+use Rattle.std.proofs.shelf.Sums.{sumBy-cons}
 use Rattle.std.proofs.shelf.Bits.{mul-le, le-div}
-use Rattle.std.proofs.shelf.Tests.{cases-bool, cases-order, cond-true, cond-false, ne-eqb, eq-eqb, eqb-true, eqb-false, lt-ltb, le-ltb, le-leb, lt-leb, and-left, and-right, and-from, or-left, cases-lt}
+use Rattle.std.proofs.shelf.Tests.{cases-bool, cases-order, cond-true, cond-false, ne-eqb, eq-eqb, eqb-true, eqb-false, lt-ltb, le-ltb, le-leb, and-left, and-right, and-from, or-left, cases-lt}
 use Rattle.std.proofs.shelf.Ways.{tells}
 use Rattle.masks.specs.Lists.{some}
 use Rattle.plans.specs.Schedules.{fullBlocks, shortBlock, blocks, rounds, blockEnds, dueAfter}

@@ -1,13 +1,13 @@
 -- What the type of a plan gives.
-use mathlib.Core.Path.{_≡_, sym, ap, _∙_, subst}
-use mathlib.Core.Bool.{Bool, true, false, not, cond, _&&_, _||_}
+use mathlib.Core.Path.{_≡_, sym, _∙_}
+use mathlib.Core.Bool.{false, not, _||_}
 use mathlib.Core.Logic.{_⊎_, inl, inr, ⊎-elim}
 use Prim.Native.Nat.{ℕ, _+_, _*_, _≤_, _<_}
 use native.Mathlib.Omega.{arith}
-use lib.Dec.{eqb, ltb, leb}
+use lib.Dec.{eqb, ltb}
 use Rattle.std.proofs.shelf.Tests.{and-parts, or-parts, not-true, eqb-true, eqb-false, ltb-false, leb-false, cond-true, cond-false, cases-bool, eq-eqb, ne-eqb}
 use Rattle.places.specs.Numbers.{unitsWrong, sourceWrong}
-use Rattle.plans.specs.Numbers.{opens, gearWrong, toleranceWrong}
+use Rattle.plans.specs.Numbers.{gearWrong, toleranceWrong}
 use Rattle.plans.specs.Schedules.{height}
 use Rattle.plans.specs.declared.plan.Plan.{Plan}
 

@@ -1,8 +1,7 @@
-use mathlib.Core.Bool.{true}
 use mathlib.Core.Path.{_≡_, sym, _∙_}
-use Prim.Native.Nat.{ℕ, _/_, _^_, _≤_, _<_}
+use Prim.Native.Nat.{_^_, _≤_, _<_}
 use native.Mathlib.Omega.{arith}
-use lib.Dec.{eqb, ltb, leb}
+use lib.Dec.{ltb, leb}
 use lib.Pow.{pow-mono}
 use Rattle.std.proofs.shelf.Tests.{le-leb, lt-ltb}
 use Rattle.masks.proofs.Bits.{within-number, shr-none}

@@ -1,7 +1,7 @@
 use mathlib.Core.Path.{sym, ap, _∙_}
 use mathlib.Core.Bool.{not}
 use native.Mathlib.Omega.{arith}
-use lib.ListN.{getD, length}
+use lib.ListN.{getD}
 use Rattle.places.specs.Units.{free}
 use Rattle.masks.proofs.Counting.{num}
 use Rattle.places.proofs.Free.{free-more, free-few, free-at, free-all}

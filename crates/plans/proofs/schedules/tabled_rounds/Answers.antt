@@ -1,4 +1,3 @@
-use native.Mathlib.Omega.{arith}
 use Rattle.plans.proofs.Table.{rounds-entry}
 use Rattle.plans.proofs.schedules.tabled_rounds.Needs as need
 

@@ -7,5 +7,5 @@ use Rattle.places.proofs.shape.Shape.place.Given as given
 
 abbrev pub Inv-loop-i : given.InvT-loop-i
 Inv-loop-i l =
-    let α = front (l .self .n) (l .self .source) (l .units) (l .i) in
+    let α = front (l .units) (l .i) in
     (proper (l .self .n) (l .self .source) α ≡ true) × Shows (l .seen) α × (l .place ≡ place (l .self .n) α)

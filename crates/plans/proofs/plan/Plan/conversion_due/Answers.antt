@@ -1,6 +1,5 @@
 use mathlib.Core.Path.{refl, sym, ap, _∙_}
 use Prim.Native.Nat.{_*_}
-use native.Mathlib.Omega.{arith}
 use Rattle.plans.proofs.Blocks.{due-last, due-full}
 use Rattle.plans.proofs.Numbers.{plan-gear}
 use Rattle.plans.proofs.plan.Plan.conversion_due.Needs as need
