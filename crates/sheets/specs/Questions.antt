@@ -1,0 +1,119 @@
+-- The questions, word by word. ws are all the words of the line: the first one names the question.
+use mathlib.Core.Bool.{cond}
+use mathlib.Core.List.{List}
+use Prim.Native.Nat.{ℕ}
+use Rattle.std.specs.declared.option.Option.{Option}
+use Rattle.std.specs.declared.option.Option.the-variants.{Some, None}
+use Rattle.std.specs.declared.result.Result.{Result}
+use Rattle.std.specs.declared.result.Result.the-variants.{Ok, Err}
+use Rattle.sheets.specs.declared.forms.KindName.the-variants.{Right, Trigger}
+use Rattle.sheets.specs.declared.forms.Letter.{Letter}
+use Rattle.sheets.specs.declared.forms.Misread.{Misread}
+use Rattle.sheets.specs.declared.forms.Misread.the-variants.{UnknownQuestion, UnknownWord}
+use Rattle.sheets.specs.declared.forms.RightName.the-variants.{Withdrawn, Watch, Operate}
+use Rattle.sheets.specs.Asked.{Asked}
+use Rattle.sheets.specs.Names.{says, kind, slope, vote}
+use Rattle.sheets.specs.Numbers.{number, level}
+use Rattle.sheets.specs.Steps.{andThen, exactly, atLeast, word, at, from}
+use Rattle.words.specs.Words.{Word}
+
+-- code KIND C
+abbrev pub codeOf : List Word → Result Asked Misread
+codeOf ws =
+    andThen (exactly 3 ws) λ _.
+    andThen (at kind ws 2) λ k.
+    andThen (at number ws 3) λ c.
+    Ok (Asked.code k c)
+
+-- value right withdrawn, value right watch, value right operate M:
+-- the third word says how many there are, so one that is no right is told before their number
+abbrev pub valueRightOf : List Word → Result Asked Misread
+valueRightOf ws =
+    andThen (atLeast 3 ws) λ _.
+    cond (says (word ws 3) "withdrawn") (andThen (exactly 3 ws) λ _. Ok (Asked.valueRight Withdrawn))
+    (cond (says (word ws 3) "watch") (andThen (exactly 3 ws) λ _. Ok (Asked.valueRight Watch))
+    (cond (says (word ws 3) "operate") (andThen (exactly 4 ws) λ _. andThen (at number ws 4) λ m. Ok (Asked.valueRight (Operate m)))
+    (Err (UnknownWord 3))))
+
+-- value trigger CHANNEL SLOPE LEVEL
+abbrev pub valueTriggerOf : List Word → Result Asked Misread
+valueTriggerOf ws =
+    andThen (exactly 5 ws) λ _.
+    andThen (at number ws 3) λ c.
+    andThen (at slope ws 4) λ s.
+    andThen (at level ws 5) λ l.
+    Ok (Asked.valueTrigger c s l)
+
+-- value KIND ..: the second word says how many there are, so one that is no kind is told before their number
+abbrev pub valueOf : List Word → Result Asked Misread
+valueOf ws =
+    andThen (atLeast 2 ws) λ _.
+    andThen (at kind ws 2) λ k.
+    elim k [ Right ↦ valueRightOf ws | Trigger ↦ valueTriggerOf ws ]
+
+-- place N SOURCE U1 U2 ..: at least one unit
+abbrev pub placeOf : List Word → Result Asked Misread
+placeOf ws =
+    andThen (atLeast 4 ws) λ _.
+    andThen (at number ws 2) λ n.
+    andThen (at number ws 3) λ s.
+    andThen (from number ws 4) λ us.
+    Ok (Asked.place n s us)
+
+-- sequence N SOURCE LEVEL PLACE
+abbrev pub sequenceOf : List Word → Result Asked Misread
+sequenceOf ws =
+    andThen (exactly 5 ws) λ _.
+    andThen (at number ws 2) λ n.
+    andThen (at number ws 3) λ s.
+    andThen (at number ws 4) λ l.
+    andThen (at number ws 5) λ p.
+    Ok (Asked.sequence n s l p)
+
+-- plan N T GEAR SOURCE
+abbrev pub planOf : List Word → Result Asked Misread
+planOf ws =
+    andThen (exactly 5 ws) λ _.
+    andThen (at number ws 2) λ n.
+    andThen (at number ws 3) λ t.
+    andThen (at number ws 4) λ g.
+    andThen (at number ws 5) λ s.
+    Ok (Asked.plan n t g s)
+
+-- an entry of a vote is a code, or `-` for an open one
+abbrev pub entry : ℕ → Word → Result (Option ℕ) Misread
+entry i w = cond (says w "-") (Ok None) (andThen (number i w) λ c. Ok (Some c))
+
+-- vote KIND VOTE T E1 E2 ..: there may be no entry
+abbrev pub voteOf : List Word → Result Asked Misread
+voteOf ws =
+    andThen (atLeast 4 ws) λ _.
+    andThen (at kind ws 2) λ k.
+    andThen (at vote ws 3) λ v.
+    andThen (at number ws 4) λ t.
+    andThen (from entry ws 5) λ es.
+    Ok (Asked.vote k v t es)
+
+-- .. ROUND FROM TO PLACE CODE
+abbrev pub letterOf : List Word → Result Letter Misread
+letterOf ws =
+    andThen (exactly 6 ws) λ _.
+    andThen (at number ws 2) λ r.
+    andThen (at number ws 3) λ f.
+    andThen (at number ws 4) λ t.
+    andThen (at number ws 5) λ p.
+    andThen (at number ws 6) λ c.
+    Ok (record { round = r; from = f; to = t; place = p; code = c })
+
+-- the first word names the question
+abbrev pub questionOf : List Word → Result Asked Misread
+questionOf ws =
+    cond (says (word ws 1) "code") (codeOf ws)
+    (cond (says (word ws 1) "value") (valueOf ws)
+    (cond (says (word ws 1) "place") (placeOf ws)
+    (cond (says (word ws 1) "sequence") (sequenceOf ws)
+    (cond (says (word ws 1) "plan") (planOf ws)
+    (cond (says (word ws 1) "vote") (voteOf ws)
+    (cond (says (word ws 1) "letter") (andThen (letterOf ws) λ l. Ok (Asked.addLetter l))
+    (cond (says (word ws 1) "arrives") (andThen (letterOf ws) λ l. Ok (Asked.arrives l))
+    (Err UnknownQuestion))))))))
