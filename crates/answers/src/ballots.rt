@@ -63,7 +63,12 @@ fn vote_named<K: Kind>(name: VoteName, entries: &[Option<K>], t: u32) -> Option<
 }
 
 // What the vote answers on these codes.
-fn poll<K: Kind>(heap: Global, name: VoteName, t: u32, codes: &[Option<u32>]) -> Result<Option<K>, Unvoted>
+fn poll<K: Kind>(
+    heap: Global,
+    name: VoteName,
+    t: u32,
+    codes: &[Option<u32>],
+) -> Result<Option<K>, Unvoted>
     ensures { λ r. ⌜ Yields (λ o. o) r (polled (K·Kind .model) name t (now (codes .entry))) ⌝ }
 {
     let entries = entries_of::<K>(heap, codes)?;
@@ -71,7 +76,13 @@ fn poll<K: Kind>(heap: Global, name: VoteName, t: u32, codes: &[Option<u32>]) ->
 }
 
 // The answer of a vote on codes of one kind.
-fn poll_answer<K: Shown>(heap: Global, kind: KindName, name: VoteName, t: u32, codes: &[Option<u32>]) -> Result<Answer, AllocError>
+fn poll_answer<K: Shown>(
+    heap: Global,
+    kind: KindName,
+    name: VoteName,
+    t: u32,
+    codes: &[Option<u32>],
+) -> Result<Answer, AllocError>
     ensures { λ r. ⌜ made r (λ a. replied a ≡ pollReply kind (K·Shown .asValue) (polled (K·Kind .model) name t (now (codes .entry)))) ⌝ }
 {
     match poll::<K>(heap, name, t, codes) {
@@ -83,7 +94,13 @@ fn poll_answer<K: Shown>(heap: Global, kind: KindName, name: VoteName, t: u32, c
 }
 
 // The answer of a vote on codes.
-pub(crate) fn vote_answer(heap: Global, kind: KindName, name: VoteName, t: u32, codes: &[Option<u32>]) -> Result<Answer, AllocError>
+pub(crate) fn vote_answer(
+    heap: Global,
+    kind: KindName,
+    name: VoteName,
+    t: u32,
+    codes: &[Option<u32>],
+) -> Result<Answer, AllocError>
     ensures { λ r. ⌜ made r (λ a. replied a ≡ voteReply kind name t (now (codes .entry))) ⌝ }
 {
     match kind {

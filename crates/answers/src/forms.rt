@@ -56,21 +56,34 @@ pub enum Answer {
     /// The value that has the code.
     Found(Value),
     /// No value of the kind has the code.
-    NoValue { kind: KindName, code: u32 },
+    NoValue {
+        kind: KindName,
+        code: u32,
+    },
     /// The code of the value.
     Code(u32),
     /// No value of the kind has such parts.
     NoSuch(KindName),
     /// Level and place of a sequence.
-    Place { level: usize, place: u32 },
+    Place {
+        level: usize,
+        place: u32,
+    },
     /// A sequence, with the last unit and the parent's place unless it is the root.
-    Sequence { found: Sequence, back: Option<(u32, u32)> },
+    Sequence {
+        found: Sequence,
+        back: Option<(u32, u32)>,
+    },
     /// The numbers of a run, which tell its rounds, blocks and values.
     Plan(Plan),
     /// What the vote answers, a value or open.
     Vote(Option<Value>),
     /// A record was added: how many there are, for how many there is room, and the mask of the loose units.
-    Added { used: usize, capacity: usize, mask: u32 },
+    Added {
+        used: usize,
+        capacity: usize,
+        mask: u32,
+    },
     /// What arrives, a code or nothing.
     Arrives(Option<u32>),
 }

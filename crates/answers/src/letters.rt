@@ -38,5 +38,11 @@ pub(crate) fn letter_answer(script: &mut Script, letter: Letter) -> Result<Answe
 pub(crate) fn arrives_answer(script: &Script, letter: Letter) -> Answer
     ensures { λ r. ⌜ replied r ≡ arrivesReply (view (now (script .entry))) letter ⌝ }
 {
-    Answer::Arrives(script.carry(letter.round, letter.from, letter.to, letter.place, letter.code))
+    Answer::Arrives(script.carry(
+        letter.round,
+        letter.from,
+        letter.to,
+        letter.place,
+        letter.code,
+    ))
 }

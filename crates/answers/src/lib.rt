@@ -53,27 +53,50 @@ pub fn answer(heap: Global, question: &Question, script: &mut Script) -> Result<
     ensures after { λ r. ⌜ Cases r (λ _. view (now (script .exit)) ≡ scriptAfter (seen (now (question .entry))) (view (now (script .entry)))) (λ _. view (now (script .exit)) ≡ view (now (script .entry))) ⌝ }
     ensures same { λ _. ⌜ name (now (script .exit) .table) ≡ name (now (script .entry) .table) ⌝ }
 {
-    Ok(match question {
-        Question::Code { kind, code } => Outcome::Answered(code_answer(*kind, *code)),
-        Question::ValueRight { right } => Outcome::Answered(right_answer(*right)),
-        Question::ValueTrigger { channel, slope, level } => {
-            Outcome::Answered(trigger_answer(*channel, *slope, *level))
-        }
-        Question::Place { n, source, units } => outcome_of(place_answer(*n, *source, units.as_slice())),
-        Question::Sequence { n, source, level, place } => {
-            outcome_of(sequence_answer(*n, *source, *level, *place))
-        }
-        Question::Plan { n, t, gear, source } => outcome_of(plan_answer(*n, *t, *gear, *source)),
-        Question::Vote { kind, vote, t, entries } => {
-            Outcome::Answered(vote_answer(heap, *kind, *vote, *t, entries.as_slice())?)
-        }
-        Question::AddLetter(letter) => outcome_of(letter_answer(script, *letter)),
-        Question::Arrives(letter) => Outcome::Answered(arrives_answer(script, *letter)),
-    })
+    Ok(
+        match question {
+            Question::Code { kind, code } => Outcome::Answered(code_answer(*kind, *code)),
+            Question::ValueRight { right } => Outcome::Answered(right_answer(*right)),
+            Question::ValueTrigger {
+                channel,
+                slope,
+                level,
+            } => { Outcome::Answered(trigger_answer(*channel, *slope, *level)) }
+            Question::Place { n, source, units } => outcome_of(place_answer(
+                *n,
+                *source,
+                units.as_slice(),
+            )),
+            Question::Sequence {
+                n,
+                source,
+                level,
+                place,
+            } => { outcome_of(sequence_answer(*n, *source, *level, *place)) }
+            Question::Plan { n, t, gear, source } => outcome_of(plan_answer(
+                *n,
+                *t,
+                *gear,
+                *source,
+            )),
+            Question::Vote {
+                kind,
+                vote,
+                t,
+                entries,
+            } => { Outcome::Answered(vote_answer(heap, *kind, *vote, *t, entries.as_slice())?) }
+            Question::AddLetter(letter) => outcome_of(letter_answer(script, *letter)),
+            Question::Arrives(letter) => Outcome::Answered(arrives_answer(script, *letter)),
+        },
+    )
 }
 
 /// Reads a line of a sheet and answers it; a line without words has no answer. If memory runs out, the script is as it was.
-pub fn respond(heap: Global, line: &[u8], script: &mut Script) -> Result<Option<Outcome>, AllocError>
+pub fn respond(
+    heap: Global,
+    line: &[u8],
+    script: &mut Script,
+) -> Result<Option<Outcome>, AllocError>
     ensures value { λ r. ⌜ made r (λ o. mapped shown o ≡ responseTo (lineOf (now (line .entry))) (view (now (script .entry)))) ⌝ }
     ensures after { λ r. ⌜ Cases r (λ _. view (now (script .exit)) ≡ scriptAfterLine (lineOf (now (line .entry))) (view (now (script .entry)))) (λ _. view (now (script .exit)) ≡ view (now (script .entry))) ⌝ }
     ensures same { λ _. ⌜ name (now (script .exit) .table) ≡ name (now (script .entry) .table) ⌝ }

@@ -25,7 +25,12 @@ pub(crate) fn place_answer(n: u32, source: u32, units: &[u32]) -> Result<Answer,
 }
 
 // The sequence at a place, and its way back.
-pub(crate) fn sequence_answer(n: u32, source: u32, level: u32, place: u32) -> Result<Answer, Refusal>
+pub(crate) fn sequence_answer(
+    n: u32,
+    source: u32,
+    level: u32,
+    place: u32,
+) -> Result<Answer, Refusal>
     ensures { λ r. ⌜ settled r ≡ sequenceReply n source level place ⌝ }
 {
     let shape = Shape::new(n, source, LEVELS)?;

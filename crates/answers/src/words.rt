@@ -55,7 +55,11 @@ pub impl fmt::Display for Value as ValueDisplay {
     }
 }
 
-fn show_sequence<W: fmt::Write>(f: &mut fmt::Formatter<W>, found: &Sequence, back: Option<(u32, u32)>) -> fmt::Result {
+fn show_sequence<W: fmt::Write>(
+    f: &mut fmt::Formatter<W>,
+    found: &Sequence,
+    back: Option<(u32, u32)>,
+) -> fmt::Result {
     write!(f, "units")?;
     for unit in found.units() {
         write!(f, " {unit}")?;
@@ -115,7 +119,11 @@ pub impl fmt::Display for Answer as AnswerDisplay {
             Answer::Sequence { found, back } => show_sequence(f, &found, back),
             Answer::Plan(plan) => show_plan(f, plan),
             Answer::Vote(voted) => show_vote(f, voted),
-            Answer::Added { used, capacity, mask } => write!(f, "record {used} of {capacity}, loose mask {mask}"),
+            Answer::Added {
+                used,
+                capacity,
+                mask,
+            } => write!(f, "record {used} of {capacity}, loose mask {mask}"),
             Answer::Arrives(Some(code)) => write!(f, "code {code} arrives"),
             Answer::Arrives(None) => write!(f, "nothing arrives"),
         }
@@ -128,7 +136,8 @@ fn meaning(refusal: &Refusal) -> &'static str {
         Refusal::Place(PlaceFault::Units) | Refusal::Plan(PlanFault::Units) => "n outside 4 to 21",
         Refusal::Plan(PlanFault::Gear) => "gear 1, or above 3",
         Refusal::Plan(PlanFault::Tolerance) => "t outside what n and the gear allow",
-        Refusal::Place(PlaceFault::Source) | Refusal::Plan(PlanFault::Source) => "source not below n",
+        Refusal::Place(PlaceFault::Source) | Refusal::Plan(PlanFault::Source) =>
+            "source not below n",
         Refusal::Place(PlaceFault::Absent) => "no such unit, level or place",
         Refusal::Script(ScriptFault::Sender) => "sender above 20",
         Refusal::Script(ScriptFault::Full) => "script full",
@@ -140,7 +149,10 @@ fn show_misread<W: fmt::Write>(f: &mut fmt::Formatter<W>, misread: Misread) -> f
         Misread::UnknownQuestion => write!(f, "no such question"),
         Misread::TooFew => write!(f, "words are missing"),
         Misread::TooMany => write!(f, "too many words"),
-        Misread::UnknownWord(i) => write!(f, "word {i} is not one of the names that may stand there"),
+        Misread::UnknownWord(i) => write!(
+            f,
+            "word {i} is not one of the names that may stand there"
+        ),
         Misread::NotNumber(i) => write!(f, "word {i} is not a number"),
         Misread::Negative(i) => write!(f, "word {i} is negative"),
         Misread::TooLarge(i) => write!(f, "word {i} is out of range"),

@@ -2,6 +2,10 @@
 ghost use mathlib.Core.Bool.{true};
 ghost use mathlib.Core.Path.{_≡_};
 ghost use Rattle.known.specs.Results.{Known, hasCode};
+
+#[cfg(test)]
+mod tests;
+
 use kinds::Kind;
 use kinds::Right;
 use kinds::RightKind;

@@ -5,8 +5,6 @@ mod fault;
 mod line;
 mod mute;
 mod script;
-#[cfg(test)]
-mod tests;
 
 pub use clean::Clean;
 pub use clean::CleanLine;

@@ -16,7 +16,13 @@ use words::words;
 const ROOM: usize = 16;
 
 // Prints a line's number, its words, and what became of it.
-fn show(rt: &LibcRuntime, heap: Global, number: usize, line: &[u8], outcome: &Outcome) -> io::Result<()> {
+fn show(
+    rt: &LibcRuntime,
+    heap: Global,
+    number: usize,
+    line: &[u8],
+    outcome: &Outcome,
+) -> io::Result<()> {
     print!(rt, "line {number}:")?;
     for word in words(heap, line)?.iter() {
         print!(rt, " ")?;
@@ -27,7 +33,13 @@ fn show(rt: &LibcRuntime, heap: Global, number: usize, line: &[u8], outcome: &Ou
 
 fn main(rt: LibcRuntime) -> io::Result<()> {
     let heap = rt.alloc();
-    let mut table = [Record { round: 0, from: 0, to: 0, place: 0, code: 0 }; ROOM];
+    let mut table = [Record {
+        round: 0,
+        from: 0,
+        to: 0,
+        place: 0,
+        code: 0,
+    }; ROOM];
     let mut script = Script::new(&mut table);
     let mut tally = Tally::new();
     let mut number: usize = 0;
@@ -39,6 +51,13 @@ fn main(rt: LibcRuntime) -> io::Result<()> {
             show(&rt, heap, number, line.as_bytes(), &outcome)?;
         }
     }
-    let Tally { answered, refused, unclear } = tally;
-    println!(rt, "answered {answered}, refused {refused}, not understood {unclear}")
+    let Tally {
+        answered,
+        refused,
+        unclear,
+    } = tally;
+    println!(
+        rt,
+        "answered {answered}, refused {refused}, not understood {unclear}"
+    )
 }

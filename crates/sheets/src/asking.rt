@@ -7,8 +7,6 @@ ghost use Rattle.sheets.specs.Numbers.{number};
 ghost use Rattle.sheets.specs.Questions.{codeOf, valueRightOf, valueTriggerOf, valueOf, placeOf, sequenceOf, planOf, entry, voteOf, letterOf, questionOf};
 ghost use Rattle.sheets.specs.Steps.{Gives, Present, at, from as allFrom, viewed};
 ghost use Rattle.words.specs.Words.{texts};
-use std::alloc::Global;
-use crate::picking::is;
 use crate::forms::KindName;
 use crate::forms::Letter;
 use crate::forms::Misread;
@@ -25,7 +23,9 @@ use crate::numbers::read_level;
 use crate::numbers::read_number;
 use crate::picking::at_least;
 use crate::picking::exactly;
+use crate::picking::is;
 use crate::picking::word;
+use std::alloc::Global;
 
 fn code(words: &[&[u8]]) -> Result<Question, Misread>
     ensures { λ r. ⌜ viewed seen r ≡ codeOf (texts (now (words .entry))) ⌝ }
@@ -43,14 +43,20 @@ fn value_right(words: &[&[u8]]) -> Result<Question, Misread>
     let name = word(words, 3);
     if is(name, b"withdrawn") {
         exactly(words, 3)?;
-        Ok(Question::ValueRight { right: RightName::Withdrawn })
+        Ok(Question::ValueRight {
+            right: RightName::Withdrawn,
+        })
     } else if is(name, b"watch") {
         exactly(words, 3)?;
-        Ok(Question::ValueRight { right: RightName::Watch })
+        Ok(Question::ValueRight {
+            right: RightName::Watch,
+        })
     } else if is(name, b"operate") {
         exactly(words, 4)?;
         let minutes = read_number(words, 4)?;
-        Ok(Question::ValueRight { right: RightName::Operate { minutes } })
+        Ok(Question::ValueRight {
+            right: RightName::Operate { minutes },
+        })
     } else {
         Err(Misread::UnknownWord(3))
     }
@@ -63,7 +69,11 @@ fn value_trigger(words: &[&[u8]]) -> Result<Question, Misread>
     let channel = read_number(words, 3)?;
     let slope = read_slope(words, 4)?;
     let level = read_level(words, 5)?;
-    Ok(Question::ValueTrigger { channel, slope, level })
+    Ok(Question::ValueTrigger {
+        channel,
+        slope,
+        level,
+    })
 }
 
 fn value(words: &[&[u8]]) -> Result<Question, Misread>
@@ -84,7 +94,12 @@ fn sequence(words: &[&[u8]]) -> Result<Question, Misread>
     let source = read_number(words, 3)?;
     let level = read_number(words, 4)?;
     let place = read_number(words, 5)?;
-    Ok(Question::Sequence { n, source, level, place })
+    Ok(Question::Sequence {
+        n,
+        source,
+        level,
+        place,
+    })
 }
 
 fn plan(words: &[&[u8]]) -> Result<Question, Misread>
@@ -107,7 +122,13 @@ fn letter(words: &[&[u8]]) -> Result<Letter, Misread>
     let to = read_number(words, 4)?;
     let place = read_number(words, 5)?;
     let code = read_number(words, 6)?;
-    Ok(Letter { round, from, to, place, code })
+    Ok(Letter {
+        round,
+        from,
+        to,
+        place,
+        code,
+    })
 }
 
 /// Word `first` and those after it, as numbers.
@@ -164,7 +185,12 @@ fn vote(heap: Global, words: &[&[u8]]) -> Result<Question, Unread>
     let vote = read_vote(words, 3)?;
     let t = read_number(words, 4)?;
     let entries = entries(heap, words, 5)?;
-    Ok(Question::Vote { kind, vote, t, entries })
+    Ok(Question::Vote {
+        kind,
+        vote,
+        t,
+        entries,
+    })
 }
 
 /// The question that the first word names.

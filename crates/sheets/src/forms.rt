@@ -48,19 +48,47 @@ pub struct Letter {
 #[derive(Drop)]
 pub enum Question {
     /// Which value of the kind has the code.
-    Code { kind: KindName, code: u32 },
+    Code {
+        kind: KindName,
+        code: u32,
+    },
     /// The code of a right.
-    ValueRight { right: RightName },
+    ValueRight {
+        right: RightName,
+    },
     /// The code of a trigger setting.
-    ValueTrigger { channel: u32, slope: SlopeName, level: i32 },
+    ValueTrigger {
+        channel: u32,
+        slope: SlopeName,
+        level: i32,
+    },
     /// Level and place of a sequence of units.
-    Place { n: u32, source: u32, units: Vec<u32> },
+    Place {
+        n: u32,
+        source: u32,
+        units: Vec<u32>,
+    },
     /// The sequence at a place of a level.
-    Sequence { n: u32, source: u32, level: u32, place: u32 },
+    Sequence {
+        n: u32,
+        source: u32,
+        level: u32,
+        place: u32,
+    },
     /// Rounds, blocks and values of a rack.
-    Plan { n: u32, t: u32, gear: u32, source: u32 },
+    Plan {
+        n: u32,
+        t: u32,
+        gear: u32,
+        source: u32,
+    },
     /// What a vote answers on entries, of which the open ones are `None`.
-    Vote { kind: KindName, vote: VoteName, t: u32, entries: Vec<Option<u32>> },
+    Vote {
+        kind: KindName,
+        vote: VoteName,
+        t: u32,
+        entries: Vec<Option<u32>>,
+    },
     /// Adds a record to the script.
     AddLetter(Letter),
     /// What arrives through the script.
@@ -108,7 +136,10 @@ impl Misread {
     {
         match self {
             Misread::UnknownQuestion | Misread::TooFew | Misread::TooMany => None,
-            Misread::UnknownWord(i) | Misread::NotNumber(i) | Misread::Negative(i) | Misread::TooLarge(i) => Some(i),
+            Misread::UnknownWord(i)
+            | Misread::NotNumber(i)
+            | Misread::Negative(i)
+            | Misread::TooLarge(i) => Some(i),
         }
     }
 }

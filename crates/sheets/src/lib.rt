@@ -10,6 +10,7 @@ mod names;
 mod numbers;
 mod picking;
 
+use asking::question;
 pub use forms::KindName;
 pub use forms::Letter;
 pub use forms::Misread;
@@ -17,9 +18,8 @@ pub use forms::Question;
 pub use forms::RightName;
 pub use forms::SlopeName;
 pub use forms::Unread;
-pub use forms::VoteName;
-use asking::question;
 use forms::UnreadFromAlloc;
+pub use forms::VoteName;
 use std::alloc::Global;
 use words::words;
 

@@ -12,10 +12,10 @@ loop-i-holds c = simp (c .new-words .ensures .items) (found-none (c .args .text 
 pub loop-i-again : need.loop-i-again
 loop-i-again c =
     elim (c .if-is-blank .came) [
-      then-is-blank·in-Continue-keep w ↦
-        simp (w .words-is, w .start-is) (found-blank (c .loop-i .inv) (c .loop-i-test .taken) (w .if-is-blank .ensures tt) _ (w .in-Continue-keep .ensures tt))
-    | else-is-blank w ↦
-        simp (w .words-is, w .start-is) (found-byte (c .loop-i .inv) (c .loop-i-test .taken) (w .if-is-blank .ensures tt))
+      | then-is-blank·in-Continue-keep w ↦
+          simp (w .words-is, w .start-is) (found-blank (c .loop-i .inv) (c .loop-i-test .taken) (w .if-is-blank .ensures tt) _ (w .in-Continue-keep .ensures tt))
+      | else-is-blank w ↦
+          simp (w .words-is, w .start-is) (found-byte (c .loop-i .inv) (c .loop-i-test .taken) (w .if-is-blank .ensures tt))
     ]
 
 pub returns : need.returns

@@ -1,10 +1,21 @@
 ghost use mathlib.Core.Bool.{true};
 ghost use mathlib.Core.Path.{_≡_};
 ghost use Rattle.lines.specs.Calls.{afterAdd};
 ghost use Rattle.lines.specs.Lines.{wayOf};
 ghost use Rattle.lines.specs.Piles.{muted};
 ghost use Rattle.lines.specs.States.{blank, meaning, view};
-use super::*;
+use lines::Clean;
+use lines::CleanLine;
+use lines::LentLine;
+use lines::Line;
+use lines::Mute;
+use lines::MuteLine;
+use lines::Record;
+use lines::Script;
+use lines::ScriptFault;
+use lines::ScriptFaultDebug;
+use lines::ScriptFaultPartialEq;
+use lines::ScriptLine;
 use masks::has;
 use std::test::*;
 
