@@ -9,9 +9,11 @@ use Rattle.std.specs.shelf.Text.{sameBytes}
 use Rattle.sheets.specs.declared.forms.KindName.{KindName}
 use Rattle.sheets.specs.declared.forms.KindName.the-variants.{Right, Trigger}
 use Rattle.sheets.specs.declared.forms.Misread.{Misread}
-use Rattle.sheets.specs.declared.forms.Misread.the-variants.{UnknownWord}
+use Rattle.sheets.specs.declared.forms.Misread.the-variants.{UnknownQuestion, UnknownWord}
 use Rattle.sheets.specs.declared.forms.SlopeName.{SlopeName}
 use Rattle.sheets.specs.declared.forms.SlopeName.the-variants.{Rising, Falling}
+use Rattle.sheets.specs.declared.forms.Topic.{Topic}
+use Rattle.sheets.specs.declared.forms.Topic.the-variants.{Code, Value, Place, Sequence, Plan, Vote, Letter, Arrives}
 use Rattle.sheets.specs.declared.forms.VoteName.{VoteName}
 use Rattle.sheets.specs.declared.forms.VoteName.the-variants.{Majority, Threshold}
 use Rattle.words.specs.Words.{Word}
@@ -35,3 +37,16 @@ slope = either (codes "rising") Rising (codes "falling") Falling
 
 abbrev pub vote : ℕ → Word → Result VoteName Misread
 vote = either (codes "majority") Majority (codes "threshold") Threshold
+
+-- the first word names the question
+abbrev pub topic : ℕ → Word → Result Topic Misread
+topic i w =
+    cond (says w "code") (Ok Code)
+    (cond (says w "value") (Ok Value)
+    (cond (says w "place") (Ok Place)
+    (cond (says w "sequence") (Ok Sequence)
+    (cond (says w "plan") (Ok Plan)
+    (cond (says w "vote") (Ok Vote)
+    (cond (says w "letter") (Ok Letter)
+    (cond (says w "arrives") (Ok Arrives)
+    (Err UnknownQuestion))))))))

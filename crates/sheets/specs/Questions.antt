@@ -1,21 +1,34 @@
 -- The questions, word by word. ws are all the words of the line: the first one names the question.
 use mathlib.Core.Bool.{cond}
 use mathlib.Core.List.{List}
-use Prim.Native.Nat.{ℕ}
+use Prim.Native.Nat.{ℕ, _+_}
+use lib.ListN.{getD}
 use Rattle.std.specs.declared.option.Option.{Option}
 use Rattle.std.specs.declared.option.Option.the-variants.{Some, None}
 use Rattle.std.specs.declared.result.Result.{Result}
 use Rattle.std.specs.declared.result.Result.the-variants.{Ok, Err}
 use Rattle.sheets.specs.declared.forms.KindName.the-variants.{Right, Trigger}
-use Rattle.sheets.specs.declared.forms.Letter.{Letter}
+use Rattle.sheets.specs.declared.forms.Letter as letters
 use Rattle.sheets.specs.declared.forms.Misread.{Misread}
-use Rattle.sheets.specs.declared.forms.Misread.the-variants.{UnknownQuestion, UnknownWord}
+use Rattle.sheets.specs.declared.forms.Misread.the-variants.{UnknownWord}
 use Rattle.sheets.specs.declared.forms.RightName.the-variants.{Withdrawn, Watch, Operate}
+use Rattle.sheets.specs.declared.forms.Topic.the-variants.{Code, Value, Place, Sequence, Plan, Vote, Letter, Arrives}
 use Rattle.sheets.specs.Asked.{Asked}
-use Rattle.sheets.specs.Names.{says, kind, slope, vote}
+use Rattle.sheets.specs.Names.{says, kind, slope, vote, topic}
 use Rattle.sheets.specs.Numbers.{number, level}
 use Rattle.sheets.specs.Steps.{andThen, exactly, atLeast, word, at, from}
 use Rattle.words.specs.Words.{Word}
+
+-- a line of a name and as many numbers
+abbrev pub numbers : ℕ → List Word → Result (List ℕ) Misread
+numbers count ws = andThen (exactly (count + 1) ws) λ _. from number ws 2
+
+-- what is made of numbers, in their order
+abbrev pub four : {A : Type 0} → (ℕ → ℕ → ℕ → ℕ → A) → List ℕ → A
+four make xs = make (getD xs 0 0) (getD xs 1 0) (getD xs 2 0) (getD xs 3 0)
+
+abbrev pub five : {A : Type 0} → (ℕ → ℕ → ℕ → ℕ → ℕ → A) → List ℕ → A
+five make xs = make (getD xs 0 0) (getD xs 1 0) (getD xs 2 0) (getD xs 3 0) (getD xs 4 0)
 
 -- code KIND C
 abbrev pub codeOf : List Word → Result Asked Misread
@@ -62,23 +75,11 @@ placeOf ws =
 
 -- sequence N SOURCE LEVEL PLACE
 abbrev pub sequenceOf : List Word → Result Asked Misread
-sequenceOf ws =
-    andThen (exactly 5 ws) λ _.
-    andThen (at number ws 2) λ n.
-    andThen (at number ws 3) λ s.
-    andThen (at number ws 4) λ l.
-    andThen (at number ws 5) λ p.
-    Ok (Asked.sequence n s l p)
+sequenceOf ws = andThen (numbers 4 ws) λ xs. Ok (four Asked.sequence xs)
 
 -- plan N T GEAR SOURCE
 abbrev pub planOf : List Word → Result Asked Misread
-planOf ws =
-    andThen (exactly 5 ws) λ _.
-    andThen (at number ws 2) λ n.
-    andThen (at number ws 3) λ t.
-    andThen (at number ws 4) λ g.
-    andThen (at number ws 5) λ s.
-    Ok (Asked.plan n t g s)
+planOf ws = andThen (numbers 4 ws) λ xs. Ok (four Asked.plan xs)
 
 -- an entry of a vote is a code, or `-` for an open one
 abbrev pub entry : ℕ → Word → Result (Option ℕ) Misread
@@ -95,25 +96,20 @@ voteOf ws =
     Ok (Asked.vote k v t es)
 
 -- .. ROUND FROM TO PLACE CODE
-abbrev pub letterOf : List Word → Result Letter Misread
-letterOf ws =
-    andThen (exactly 6 ws) λ _.
-    andThen (at number ws 2) λ r.
-    andThen (at number ws 3) λ f.
-    andThen (at number ws 4) λ t.
-    andThen (at number ws 5) λ p.
-    andThen (at number ws 6) λ c.
-    Ok (record { round = r; from = f; to = t; place = p; code = c })
+abbrev pub letterOf : List Word → Result letters.Letter Misread
+letterOf ws = andThen (numbers 5 ws) λ xs. Ok (five (λ r f t p c. record { round = r; from = f; to = t; place = p; code = c }) xs)
 
 -- the first word names the question
 abbrev pub questionOf : List Word → Result Asked Misread
 questionOf ws =
-    cond (says (word ws 1) "code") (codeOf ws)
-    (cond (says (word ws 1) "value") (valueOf ws)
-    (cond (says (word ws 1) "place") (placeOf ws)
-    (cond (says (word ws 1) "sequence") (sequenceOf ws)
-    (cond (says (word ws 1) "plan") (planOf ws)
-    (cond (says (word ws 1) "vote") (voteOf ws)
-    (cond (says (word ws 1) "letter") (andThen (letterOf ws) λ l. Ok (Asked.addLetter l))
-    (cond (says (word ws 1) "arrives") (andThen (letterOf ws) λ l. Ok (Asked.arrives l))
-    (Err UnknownQuestion))))))))
+    andThen (at topic ws 1) λ t.
+    elim t [
+      | Code ↦ codeOf ws
+      | Value ↦ valueOf ws
+      | Place ↦ placeOf ws
+      | Sequence ↦ sequenceOf ws
+      | Plan ↦ planOf ws
+      | Vote ↦ voteOf ws
+      | Letter ↦ andThen (letterOf ws) λ l. Ok (Asked.addLetter l)
+      | Arrives ↦ andThen (letterOf ws) λ l. Ok (Asked.arrives l)
+    ]

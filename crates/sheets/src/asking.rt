@@ -4,20 +4,22 @@ ghost use Prim.Native.Nat.{_<_};
 ghost use Rattle.std.specs.Of.Vec.{vec-items};
 ghost use Rattle.sheets.specs.Asked.{seen};
 ghost use Rattle.sheets.specs.Numbers.{number};
-ghost use Rattle.sheets.specs.Questions.{codeOf, valueRightOf, valueTriggerOf, valueOf, placeOf, sequenceOf, planOf, entry, voteOf, letterOf, questionOf};
-ghost use Rattle.sheets.specs.Steps.{Gives, Present, at, from as allFrom, viewed};
+ghost use Rattle.sheets.specs.Questions.{codeOf, valueRightOf, valueTriggerOf, valueOf, placeOf, numbers as numbersOf, entry, voteOf, questionOf};
+ghost use Rattle.sheets.specs.Steps.{Gives, Present, at, from as allFrom};
 ghost use Rattle.words.specs.Words.{texts};
 use crate::forms::KindName;
 use crate::forms::Letter;
 use crate::forms::Misread;
 use crate::forms::Question;
 use crate::forms::RightName;
+use crate::forms::Topic;
 use crate::forms::Unread;
 use crate::forms::UnreadFromAlloc;
 use crate::forms::UnreadFromMisread;
 use crate::forms::UnreadFromRefused;
 use crate::names::read_kind;
 use crate::names::read_slope;
+use crate::names::read_topic;
 use crate::names::read_vote;
 use crate::numbers::read_level;
 use crate::numbers::read_number;
@@ -27,8 +29,8 @@ use crate::picking::is;
 use crate::picking::word;
 use std::alloc::Global;
 
-fn code(words: &[&[u8]]) -> Result<Question, Misread>
-    ensures { λ r. ⌜ viewed seen r ≡ codeOf (texts (now (words .entry))) ⌝ }
+fn code(words: &[&[u8]]) -> Result<Question, Unread>
+    ensures { λ r. ⌜ Gives seen r (codeOf (texts (now (words .entry)))) ⌝ }
 {
     exactly(words, 3)?;
     let kind = read_kind(words, 2)?;
@@ -36,8 +38,8 @@ fn code(words: &[&[u8]]) -> Result<Question, Misread>
     Ok(Question::Code { kind, code })
 }
 
-fn value_right(words: &[&[u8]]) -> Result<Question, Misread>
-    ensures { λ r. ⌜ viewed seen r ≡ valueRightOf (texts (now (words .entry))) ⌝ }
+fn value_right(words: &[&[u8]]) -> Result<Question, Unread>
+    ensures { λ r. ⌜ Gives seen r (valueRightOf (texts (now (words .entry)))) ⌝ }
 {
     at_least(words, 3)?;
     let name = word(words, 3);
@@ -58,12 +60,12 @@ fn value_right(words: &[&[u8]]) -> Result<Question, Misread>
             right: RightName::Operate { minutes },
         })
     } else {
-        Err(Misread::UnknownWord(3))
+        Err(Unread::Flaw(Misread::UnknownWord(3)))
     }
 }
 
-fn value_trigger(words: &[&[u8]]) -> Result<Question, Misread>
-    ensures { λ r. ⌜ viewed seen r ≡ valueTriggerOf (texts (now (words .entry))) ⌝ }
+fn value_trigger(words: &[&[u8]]) -> Result<Question, Unread>
+    ensures { λ r. ⌜ Gives seen r (valueTriggerOf (texts (now (words .entry)))) ⌝ }
 {
     exactly(words, 5)?;
     let channel = read_number(words, 3)?;
@@ -76,8 +78,8 @@ fn value_trigger(words: &[&[u8]]) -> Result<Question, Misread>
     })
 }
 
-fn value(words: &[&[u8]]) -> Result<Question, Misread>
-    ensures { λ r. ⌜ viewed seen r ≡ valueOf (texts (now (words .entry))) ⌝ }
+fn value(words: &[&[u8]]) -> Result<Question, Unread>
+    ensures { λ r. ⌜ Gives seen r (valueOf (texts (now (words .entry)))) ⌝ }
 {
     at_least(words, 2)?;
     match read_kind(words, 2)? {
@@ -86,61 +88,29 @@ fn value(words: &[&[u8]]) -> Result<Question, Misread>
     }
 }
 
-fn sequence(words: &[&[u8]]) -> Result<Question, Misread>
-    ensures { λ r. ⌜ viewed seen r ≡ sequenceOf (texts (now (words .entry))) ⌝ }
+/// The numbers after the first word, of which there are `K`.
+fn numbers<const K: usize>(words: &[&[u8]]) -> Result<[u32; K], Misread>
+    requires { ⌜ K < 100 ⌝ }
+    ensures { λ r. ⌜ r ≡ numbersOf K (texts (now (words .entry))) ⌝ }
 {
-    exactly(words, 5)?;
-    let n = read_number(words, 2)?;
-    let source = read_number(words, 3)?;
-    let level = read_number(words, 4)?;
-    let place = read_number(words, 5)?;
-    Ok(Question::Sequence {
-        n,
-        source,
-        level,
-        place,
-    })
-}
-
-fn plan(words: &[&[u8]]) -> Result<Question, Misread>
-    ensures { λ r. ⌜ viewed seen r ≡ planOf (texts (now (words .entry))) ⌝ }
-{
-    exactly(words, 5)?;
-    let n = read_number(words, 2)?;
-    let t = read_number(words, 3)?;
-    let gear = read_number(words, 4)?;
-    let source = read_number(words, 5)?;
-    Ok(Question::Plan { n, t, gear, source })
-}
-
-fn letter(words: &[&[u8]]) -> Result<Letter, Misread>
-    ensures { λ r. ⌜ r ≡ letterOf (texts (now (words .entry))) ⌝ }
-{
-    exactly(words, 6)?;
-    let round = read_number(words, 2)?;
-    let from = read_number(words, 3)?;
-    let to = read_number(words, 4)?;
-    let place = read_number(words, 5)?;
-    let code = read_number(words, 6)?;
-    Ok(Letter {
-        round,
-        from,
-        to,
-        place,
-        code,
-    })
+    exactly(words, K + 1)?;
+    let mut numbers = [0; K];
+    for k in 0..K {
+        numbers[k] = read_number(words, k + 2)?;
+    }
+    Ok(numbers)
 }
 
 /// Word `first` and those after it, as numbers.
-fn numbers(heap: Global, words: &[&[u8]], first: usize) -> Result<Vec<u32>, Unread>
+fn units(heap: Global, words: &[&[u8]], first: usize) -> Result<Vec<u32>, Unread>
     requires { ⌜ 0 < first ⌝ }
     ensures { λ r. ⌜ Gives vec-items r (allFrom number (texts (now (words .entry))) first) ⌝ }
 {
-    let mut numbers = Vec::new(heap);
+    let mut units = Vec::new(heap);
     for i in first..words.len() + 1 {
-        numbers.push(read_number(words, i)?)?;
+        units.push(read_number(words, i)?)?;
     }
-    Ok(numbers)
+    Ok(units)
 }
 
 /// Word `i` as an entry of a vote.
@@ -173,7 +143,7 @@ fn place(heap: Global, words: &[&[u8]]) -> Result<Question, Unread>
     at_least(words, 4)?;
     let n = read_number(words, 2)?;
     let source = read_number(words, 3)?;
-    let units = numbers(heap, words, 4)?;
+    let units = units(heap, words, 4)?;
     Ok(Question::Place { n, source, units })
 }
 
@@ -198,24 +168,43 @@ pub(crate) fn question(heap: Global, words: &[&[u8]]) -> Result<Question, Unread
     requires { ⌜ Present (now words) 1 ⌝ }
     ensures { λ r. ⌜ Gives seen r (questionOf (texts (now (words .entry)))) ⌝ }
 {
-    let name = word(words, 1);
-    if is(name, b"code") {
-        Ok(code(words)?)
-    } else if is(name, b"value") {
-        Ok(value(words)?)
-    } else if is(name, b"place") {
-        place(heap, words)
-    } else if is(name, b"sequence") {
-        Ok(sequence(words)?)
-    } else if is(name, b"plan") {
-        Ok(plan(words)?)
-    } else if is(name, b"vote") {
-        vote(heap, words)
-    } else if is(name, b"letter") {
-        Ok(Question::AddLetter(letter(words)?))
-    } else if is(name, b"arrives") {
-        Ok(Question::Arrives(letter(words)?))
-    } else {
-        Err(Unread::Flaw(Misread::UnknownQuestion))
+    match read_topic(words, 1)? {
+        Topic::Code => code(words),
+        Topic::Value => value(words),
+        Topic::Place => place(heap, words),
+        Topic::Sequence => {
+            let [n, source, level, place] = numbers::<4>(words)?;
+            Ok(Question::Sequence {
+                n,
+                source,
+                level,
+                place,
+            })
+        }
+        Topic::Plan => {
+            let [n, t, gear, source] = numbers::<4>(words)?;
+            Ok(Question::Plan { n, t, gear, source })
+        }
+        Topic::Vote => vote(heap, words),
+        Topic::Letter => {
+            let [round, from, to, place, code] = numbers::<5>(words)?;
+            Ok(Question::AddLetter(Letter {
+                round,
+                from,
+                to,
+                place,
+                code,
+            }))
+        }
+        Topic::Arrives => {
+            let [round, from, to, place, code] = numbers::<5>(words)?;
+            Ok(Question::Arrives(Letter {
+                round,
+                from,
+                to,
+                place,
+                code,
+            }))
+        }
     }
 }

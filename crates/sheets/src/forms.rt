@@ -44,6 +44,19 @@ pub struct Letter {
     pub code: u32,
 }
 
+/// The first word of a line.
+#[derive(Clone, Copy)]
+pub(crate) enum Topic {
+    Code,
+    Value,
+    Place,
+    Sequence,
+    Plan,
+    Vote,
+    Letter,
+    Arrives,
+}
+
 /// What a line asks. The numbers are those typed: none is held to a range of the rack.
 #[derive(Drop)]
 pub enum Question {

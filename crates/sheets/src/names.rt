@@ -1,11 +1,12 @@
 //! A word read as a name.
 ghost use mathlib.Core.Path.{_≡_};
-ghost use Rattle.sheets.specs.Names.{either, kind, slope, vote};
+ghost use Rattle.sheets.specs.Names.{either, kind, slope, topic, vote};
 ghost use Rattle.sheets.specs.Steps.{Present, at};
 ghost use Rattle.words.specs.Words.{texts};
 use crate::forms::KindName;
 use crate::forms::Misread;
 use crate::forms::SlopeName;
+use crate::forms::Topic;
 use crate::forms::VoteName;
 use crate::picking::is;
 use crate::picking::word;
@@ -75,4 +76,31 @@ pub(crate) fn read_vote(words: &[&[u8]], i: usize) -> Result<VoteName, Misread>
         b"threshold",
         VoteName::Threshold,
     )
+}
+
+/// Word `i` as the name of a question.
+pub(crate) fn read_topic(words: &[&[u8]], i: usize) -> Result<Topic, Misread>
+    requires { ⌜ Present (now words) i ⌝ }
+    ensures { λ r. ⌜ r ≡ at topic (texts (now (words .entry))) i ⌝ }
+{
+    let name = word(words, i);
+    if is(name, b"code") {
+        Ok(Topic::Code)
+    } else if is(name, b"value") {
+        Ok(Topic::Value)
+    } else if is(name, b"place") {
+        Ok(Topic::Place)
+    } else if is(name, b"sequence") {
+        Ok(Topic::Sequence)
+    } else if is(name, b"plan") {
+        Ok(Topic::Plan)
+    } else if is(name, b"vote") {
+        Ok(Topic::Vote)
+    } else if is(name, b"letter") {
+        Ok(Topic::Letter)
+    } else if is(name, b"arrives") {
+        Ok(Topic::Arrives)
+    } else {
+        Err(Misread::UnknownQuestion)
+    }
 }
