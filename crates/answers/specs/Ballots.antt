@@ -12,10 +12,10 @@ use Rattle.kinds.specs.Rights.{rightModel}
 use Rattle.kinds.specs.Triggers.{triggerModel}
 use Rattle.votes.specs.Laws.{Answer}
 use Rattle.votes.specs.Meanings.{majority, threshold}
-use Rattle.sheets.specs.declared.forms.KindName.{KindName}
-use Rattle.sheets.specs.declared.forms.KindName.the-variants as kind
-use Rattle.sheets.specs.declared.forms.VoteName.{VoteName}
-use Rattle.sheets.specs.declared.forms.VoteName.the-variants.{Majority, Threshold}
+use Rattle.fields.specs.declared.forms.KindName.{KindName}
+use Rattle.fields.specs.declared.forms.KindName.the-variants as kind
+use Rattle.fields.specs.declared.forms.VoteName.{VoteName}
+use Rattle.fields.specs.declared.forms.VoteName.the-variants.{Majority, Threshold}
 use Rattle.answers.specs.declared.forms.Unvoted.{Unvoted}
 use Rattle.answers.specs.declared.forms.Unvoted.the-variants.{NoValue, NoMemory}
 use Rattle.answers.specs.declared.forms.Value.{Value}

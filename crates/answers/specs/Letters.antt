@@ -1,5 +1,4 @@
 -- Records of a script, and what arrives through it.
-use Prim.Native.Nat.{ℕ}
 use lib.ListN.{length}
 use Rattle.std.specs.declared.option.Option.the-variants.{Some, None}
 use Rattle.lines.specs.declared.script.Record.{Record}

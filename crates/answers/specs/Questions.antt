@@ -6,7 +6,7 @@ use Rattle.std.specs.declared.result.Result.the-variants.{Ok, Err}
 use Rattle.lines.specs.Calls.{afterAdd}
 use Rattle.lines.specs.States.{ScriptState}
 use Rattle.sheets.specs.Asked.{Asked}
-use Rattle.sheets.specs.declared.forms.Misread.{Misread}
+use Rattle.fields.specs.declared.forms.Misread.{Misread}
 use Rattle.answers.specs.Ballots.{voteReply}
 use Rattle.answers.specs.Letters.{recordOf, letterReply, arrivesReply}
 use Rattle.answers.specs.Racks.{placeReply, sequenceReply, planReply}

@@ -6,8 +6,8 @@ use Rattle.std.specs.declared.result.Result.{Result}
 use Rattle.std.specs.declared.result.Result.the-variants.{Ok, Err}
 use Rattle.places.specs.Answers.{unitsOf}
 use Rattle.plans.specs.Answers.{planParts}
-use Rattle.sheets.specs.declared.forms.KindName.{KindName}
-use Rattle.sheets.specs.declared.forms.Misread.{Misread}
+use Rattle.fields.specs.declared.forms.KindName.{KindName}
+use Rattle.fields.specs.declared.forms.Misread.{Misread}
 use Rattle.answers.specs.declared.forms.Answer.{Answer}
 use Rattle.answers.specs.declared.forms.Answer.the-variants.{Found, NoValue, Code, NoSuch, Place, Sequence, Plan, Vote, Added, Arrives}
 use Rattle.answers.specs.declared.forms.Outcome.{Outcome}

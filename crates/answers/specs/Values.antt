@@ -1,5 +1,4 @@
 -- Codes and values of the kinds.
-use mathlib.Core.Path.{_≡_}
 use Prim.Native.Nat.{ℕ}
 use lib.IntN.{ℤ}
 use Rattle.std.specs.Options.{mapped}
@@ -11,12 +10,12 @@ use Rattle.kinds.specs.declared.trigger.Slope.{Slope}
 use Rattle.kinds.specs.declared.trigger.Slope.the-variants.{Rising, Falling}
 use Rattle.kinds.specs.Rights.{minutesOf, rightOf, rightCode}
 use Rattle.kinds.specs.Triggers.{triggerFrom, triggerOf, triggerCode}
-use Rattle.sheets.specs.declared.forms.KindName.{KindName}
-use Rattle.sheets.specs.declared.forms.KindName.the-variants as kind
+use Rattle.fields.specs.declared.forms.KindName.{KindName}
+use Rattle.fields.specs.declared.forms.KindName.the-variants as kind
 use Rattle.sheets.specs.declared.forms.RightName.{RightName}
 use Rattle.sheets.specs.declared.forms.RightName.the-variants as name
-use Rattle.sheets.specs.declared.forms.SlopeName.{SlopeName}
-use Rattle.sheets.specs.declared.forms.SlopeName.the-variants as slope
+use Rattle.fields.specs.declared.forms.SlopeName.{SlopeName}
+use Rattle.fields.specs.declared.forms.SlopeName.the-variants as slope
 use Rattle.answers.specs.declared.forms.Value.{Value}
 use Rattle.answers.specs.declared.forms.Value.the-variants as value
 use Rattle.answers.specs.Replies.{Reply}

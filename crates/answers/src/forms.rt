@@ -4,6 +4,8 @@ ghost use Rattle.answers.specs.declared.forms.Value.{Value};
 ghost use Rattle.answers.specs.declared.forms.Refusal.the-variants.{Place, Plan, Script};
 ghost use Rattle.answers.specs.declared.forms.Unvoted.the-variants.{NoMemory};
 ghost use Rattle.answers.specs.Refusals.{refusalNumber};
+use fields::KindName;
+use fields::Misread;
 use kinds::Kind;
 use kinds::Right;
 use kinds::RightKind;
@@ -14,8 +16,6 @@ use places::fault::PlaceFault;
 use places::sequence::Sequence;
 use plans::fault::PlanFault;
 use plans::plan::Plan;
-use sheets::KindName;
-use sheets::Misread;
 use std::alloc::Refused;
 
 /// A value of one of the kinds.

@@ -16,7 +16,6 @@ mod letters;
 mod racks;
 pub mod tally;
 mod values;
-pub mod words;
 
 use ballots::vote_answer;
 use forms::Answer;

@@ -4,6 +4,8 @@ ghost use Rattle.answers.specs.Replies.{replied};
 ghost use Rattle.answers.specs.Values.{codeReply, rightReply, triggerReply, rightNamed, slopeNamed, valueWith};
 use crate::forms::Answer;
 use crate::forms::Value;
+use fields::KindName;
+use fields::SlopeName;
 use kinds::Kind;
 use kinds::Minutes;
 use kinds::Right;
@@ -11,9 +13,7 @@ use kinds::RightKind;
 use kinds::Slope;
 use kinds::Trigger;
 use kinds::TriggerKind;
-use sheets::KindName;
 use sheets::RightName;
-use sheets::SlopeName;
 
 // The value of a kind that has the code.
 fn value_with(kind: KindName, code: u32) -> Option<Value>

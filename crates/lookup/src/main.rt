@@ -1,8 +1,9 @@
 //! Answers a bench sheet from standard input, a question a line.
+mod wording;
+
 use answers::forms::Outcome;
 use answers::respond;
 use answers::tally::Tally;
-use answers::words::OutcomeDisplay;
 use lines::Record;
 use lines::Script;
 use std::alloc::Global;
@@ -10,6 +11,7 @@ use std::io;
 use std::io::BufRead;
 use std::io::BufReader;
 use std::io::Write;
+use wording::show_outcome;
 use words::words;
 
 // How many records the script has room for.
@@ -28,7 +30,9 @@ fn show(
         print!(rt, " ")?;
         rt.stdout().write_all(word)?;
     }
-    println!(rt, "\n  {outcome}")
+    print!(rt, "\n  ")?;
+    show_outcome(rt, *outcome)?;
+    println!(rt, "")
 }
 
 fn main(rt: LibcRuntime) -> io::Result<()> {

@@ -136,7 +136,7 @@ module _ (shape : Shape) (us : List ℕ) where
 
   -- a front that is a sequence has a place of its level
   pub front-place : (i : ℕ) → 1 ≤ i → i ≤ length us → length us ≤ shape .levels → proper (shape .n) (shape .source) (front us i) ≡ true
-      → (place (shape .n) (front us i) < 6840 + 1)
+      → (place (shape .n) (front us i) < 6840)
       × (getD (sequences (shape .n) (shape .source) (i - 1)) (place (shape .n) (front us i)) [] ≡ front us i)
   front-place i one l few t =
       let α = front us i in
@@ -153,14 +153,15 @@ module _ (shape : Shape) (us : List ℕ) where
 
   pub all-places : (i at : ℕ) → i ≡ length us → begun shape us ≡ true → proper (shape .n) (shape .source) (front us i) ≡ true
       → at ≡ place (shape .n) (front us i)
-      → (Ok at ≡ placeAnswer shape us) × (sequenceAt shape (length us) at ≡ reverse us)
+      → (Ok at ≡ placeAnswer shape us) × (sequenceAt shape (length us) at ≡ reverse us) × (at < 6840)
   all-places i at end t is-proper e =
       let parts = begun-parts t in
       let whole : front us i ≡ reverse us = ap reverse (take-all i us (omega arith)) in
       let has = and-parts (hasLevel (shape .levels) (length us)) (eqb (getD us 0 0) (shape .source)) t .0 in
       let p : proper (shape .n) (shape .source) (reverse us) ≡ true = sym (ap (proper (shape .n) (shape .source)) whole) ∙ is-proper in
       let f : at ≡ place (shape .n) (reverse us) = e ∙ ap (place (shape .n)) whole in
-      let seat = front-place i (omega arith) (omega arith) (parts .1) is-proper .1 in (
+      let seat = front-place i (omega arith) (omega arith) (parts .1) is-proper in (
         sym (cond-true (hasLevel (shape .levels) (length us) && proper (shape .n) (shape .source) (reverse us)) _ _ (and-from _ _ has p) ∙ ap Ok (sym f)),
-        ap₂ (λ x y. getD (sequences (shape .n) (shape .source) (x - 1)) y []) (sym end) e ∙ (seat ∙ whole),
+        ap₂ (λ x y. getD (sequences (shape .n) (shape .source) (x - 1)) y []) (sym end) e ∙ (seat .1 ∙ whole),
+        omega (arith, e, seat .0),
       )

@@ -115,6 +115,7 @@ impl Shape {
     pub fn place(self, units: &[u32]) -> Result<u32, PlaceFault>
         ensures value { λ r. ⌜ r ≡ placeAnswer (self .n) (self .source) (self .levels) (now (units .entry)) ⌝ }
         ensures back { λ r. ⌜ made r (λ found. sequenceAt (self .n) (self .source) (length (now (units .entry))) found ≡ reverse (now (units .entry))) ⌝ }
+        ensures bound { λ r. ⌜ made r (λ found. found < 6840) ⌝ }
     {
         if !self.begins(units) {
             return Err(PlaceFault::Absent);

@@ -1,5 +1,5 @@
 -- What a line asks, from what its words ask.
-use mathlib.Core.Path.{_≡_, refl, sym, ap, _∙_}
+use mathlib.Core.Path.{_≡_, ap, _∙_}
 use mathlib.Core.List.{List, [], _∷_}
 use Prim.Native.Nat.{ℕ, _<_}
 use native.Mathlib.Omega.{arith}
@@ -7,7 +7,6 @@ use denote.Ref.{RefT}
 use lib.ListN.{length}
 use Rattle.std.specs.Options.{mapped}
 use Rattle.std.specs.declared.option.Option.the-variants.{Some, None}
-use Rattle.std.specs.declared.result.Result.{Result}
 use Rattle.std.specs.declared.result.Result.the-variants.{Ok, Err}
 use Rattle.sheets.specs.declared.forms.Question.{Question}
 use Rattle.sheets.specs.declared.forms.Unread.{Unread}
@@ -15,7 +14,8 @@ use Rattle.sheets.specs.declared.forms.Unread.the-variants.{Flaw, NoMemory}
 use Rattle.sheets.specs.Asked.{seen}
 use Rattle.sheets.specs.Lines.{asks, lineOf}
 use Rattle.sheets.specs.Questions.{questionOf}
-use Rattle.sheets.specs.Steps.{andThen, Gives}
+use Rattle.fields.specs.Steps.{andThen}
+use Rattle.sheets.specs.Reading.{Gives}
 use Rattle.words.specs.Words.{Word, words, texts}
 
 module _ (line : List ℕ) where

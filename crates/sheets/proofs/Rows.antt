@@ -8,8 +8,8 @@ use lib.ListN.{length, drop, length-map}
 use Rattle.std.proofs.shelf.Lists.{drop-more, drop-all}
 use Rattle.std.specs.declared.result.Result.{Result}
 use Rattle.std.specs.declared.result.Result.the-variants.{Ok, Err}
-use Rattle.sheets.specs.declared.forms.Misread.{Misread}
-use Rattle.sheets.specs.Steps.{andThen, Present, at, each, from}
+use Rattle.fields.specs.declared.forms.Misread.{Misread}
+use Rattle.fields.specs.Steps.{andThen, Present, at, each, from}
 use Rattle.words.specs.Words.{Word, texts}
 
 -- x in front of what is read, and xs

@@ -4,13 +4,13 @@ use Prim.Native.Nat.{ℕ}
 use lib.IntN.{ℤ}
 use Rattle.std.specs.Of.Vec.{vec-items}
 use Rattle.std.specs.declared.option.Option.{Option}
-use Rattle.sheets.specs.declared.forms.KindName.{KindName}
+use Rattle.fields.specs.declared.forms.KindName.{KindName}
 use Rattle.sheets.specs.declared.forms.Letter.{Letter}
 use Rattle.sheets.specs.declared.forms.Question.{Question}
 use Rattle.sheets.specs.declared.forms.Question.the-variants.{Code, ValueRight, ValueTrigger, Place, Sequence, Plan, Vote, AddLetter, Arrives}
 use Rattle.sheets.specs.declared.forms.RightName.{RightName}
-use Rattle.sheets.specs.declared.forms.SlopeName.{SlopeName}
-use Rattle.sheets.specs.declared.forms.VoteName.{VoteName}
+use Rattle.fields.specs.declared.forms.SlopeName.{SlopeName}
+use Rattle.fields.specs.declared.forms.VoteName.{VoteName}
 
 pub data Asked : Type 0 where
   code : (kind : KindName) (number : ℕ) → Asked

@@ -1,7 +1,5 @@
-pub mod Flaws
-pub mod Numbers
-pub mod Names
 pub mod Asked
-pub mod Steps
+pub mod Topics
 pub mod Questions
 pub mod Lines
+pub mod Reading

@@ -5,10 +5,10 @@ use Rattle.std.specs.declared.option.Option.{Option}
 use Rattle.std.specs.declared.option.Option.the-variants.{Some, None}
 use Rattle.std.specs.declared.result.Result.{Result}
 use Rattle.std.specs.declared.result.Result.the-variants.{Ok}
-use Rattle.sheets.specs.declared.forms.Misread.{Misread}
+use Rattle.fields.specs.declared.forms.Misread.{Misread}
 use Rattle.sheets.specs.Asked.{Asked}
 use Rattle.sheets.specs.Questions.{questionOf}
-use Rattle.sheets.specs.Steps.{andThen}
+use Rattle.fields.specs.Steps.{andThen}
 use Rattle.words.specs.Words.{Word, words}
 
 abbrev pub asks : List Word → Result (Option Asked) Misread

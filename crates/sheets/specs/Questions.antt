@@ -7,16 +7,17 @@ use Rattle.std.specs.declared.option.Option.{Option}
 use Rattle.std.specs.declared.option.Option.the-variants.{Some, None}
 use Rattle.std.specs.declared.result.Result.{Result}
 use Rattle.std.specs.declared.result.Result.the-variants.{Ok, Err}
-use Rattle.sheets.specs.declared.forms.KindName.the-variants.{Right, Trigger}
+use Rattle.fields.specs.declared.forms.KindName.the-variants.{Right, Trigger}
 use Rattle.sheets.specs.declared.forms.Letter as letters
-use Rattle.sheets.specs.declared.forms.Misread.{Misread}
-use Rattle.sheets.specs.declared.forms.Misread.the-variants.{UnknownWord}
+use Rattle.fields.specs.declared.forms.Misread.{Misread}
+use Rattle.fields.specs.declared.forms.Misread.the-variants.{UnknownWord}
 use Rattle.sheets.specs.declared.forms.RightName.the-variants.{Withdrawn, Watch, Operate}
 use Rattle.sheets.specs.declared.forms.Topic.the-variants.{Code, Value, Place, Sequence, Plan, Vote, Letter, Arrives}
 use Rattle.sheets.specs.Asked.{Asked}
-use Rattle.sheets.specs.Names.{says, kind, slope, vote, topic}
-use Rattle.sheets.specs.Numbers.{number, level}
-use Rattle.sheets.specs.Steps.{andThen, exactly, atLeast, word, at, from}
+use Rattle.fields.specs.Names.{says, kind, slope, vote}
+use Rattle.sheets.specs.Topics.{topic}
+use Rattle.fields.specs.Numbers.{number, level}
+use Rattle.fields.specs.Steps.{andThen, exactly, atLeast, word, at, from}
 use Rattle.words.specs.Words.{Word}
 
 -- a line of a name and as many numbers

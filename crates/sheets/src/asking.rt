@@ -3,13 +3,13 @@ ghost use mathlib.Core.Path.{_≡_};
 ghost use Prim.Native.Nat.{_<_};
 ghost use Rattle.std.specs.Of.Vec.{vec-items};
 ghost use Rattle.sheets.specs.Asked.{seen};
-ghost use Rattle.sheets.specs.Numbers.{number};
+ghost use Rattle.fields.specs.Numbers.{number};
 ghost use Rattle.sheets.specs.Questions.{codeOf, valueRightOf, valueTriggerOf, valueOf, placeOf, numbers as numbersOf, entry, voteOf, questionOf};
-ghost use Rattle.sheets.specs.Steps.{Gives, Present, at, from as allFrom};
+ghost use Rattle.sheets.specs.Topics.{topic};
+ghost use Rattle.fields.specs.Steps.{Present, at, from as allFrom};
+ghost use Rattle.sheets.specs.Reading.{Gives};
 ghost use Rattle.words.specs.Words.{texts};
-use crate::forms::KindName;
 use crate::forms::Letter;
-use crate::forms::Misread;
 use crate::forms::Question;
 use crate::forms::RightName;
 use crate::forms::Topic;
@@ -17,16 +17,17 @@ use crate::forms::Unread;
 use crate::forms::UnreadFromAlloc;
 use crate::forms::UnreadFromMisread;
 use crate::forms::UnreadFromRefused;
-use crate::names::read_kind;
-use crate::names::read_slope;
-use crate::names::read_topic;
-use crate::names::read_vote;
-use crate::numbers::read_level;
-use crate::numbers::read_number;
-use crate::picking::at_least;
-use crate::picking::exactly;
-use crate::picking::is;
-use crate::picking::word;
+use fields::KindName;
+use fields::Misread;
+use fields::at_least;
+use fields::exactly;
+use fields::is;
+use fields::read_kind;
+use fields::read_level;
+use fields::read_number;
+use fields::read_slope;
+use fields::read_vote;
+use fields::word;
 use std::alloc::Global;
 
 fn code(words: &[&[u8]]) -> Result<Question, Unread>
@@ -206,5 +207,32 @@ pub(crate) fn question(heap: Global, words: &[&[u8]]) -> Result<Question, Unread
                 code,
             }))
         }
+    }
+}
+
+/// Word `i` as the name of a question.
+fn read_topic(words: &[&[u8]], i: usize) -> Result<Topic, Misread>
+    requires { ⌜ Present (now words) i ⌝ }
+    ensures { λ r. ⌜ r ≡ at topic (texts (now (words .entry))) i ⌝ }
+{
+    let name = word(words, i);
+    if is(name, b"code") {
+        Ok(Topic::Code)
+    } else if is(name, b"value") {
+        Ok(Topic::Value)
+    } else if is(name, b"place") {
+        Ok(Topic::Place)
+    } else if is(name, b"sequence") {
+        Ok(Topic::Sequence)
+    } else if is(name, b"plan") {
+        Ok(Topic::Plan)
+    } else if is(name, b"vote") {
+        Ok(Topic::Vote)
+    } else if is(name, b"letter") {
+        Ok(Topic::Letter)
+    } else if is(name, b"arrives") {
+        Ok(Topic::Arrives)
+    } else {
+        Err(Misread::UnknownQuestion)
     }
 }

@@ -2,24 +2,17 @@
 ghost use Rattle.std.specs.Options.{mapped};
 ghost use Rattle.sheets.specs.Asked.{seen};
 ghost use Rattle.sheets.specs.Lines.{lineOf};
-ghost use Rattle.sheets.specs.Steps.{Gives};
+ghost use Rattle.sheets.specs.Reading.{Gives};
 
 mod asking;
 mod forms;
-mod names;
-mod numbers;
-mod picking;
 
 use asking::question;
-pub use forms::KindName;
 pub use forms::Letter;
-pub use forms::Misread;
 pub use forms::Question;
 pub use forms::RightName;
-pub use forms::SlopeName;
 pub use forms::Unread;
 use forms::UnreadFromAlloc;
-pub use forms::VoteName;
 use std::alloc::Global;
 use words::words;
 

@@ -1,8 +1,6 @@
-use mathlib.Core.Path.{sym, ap, subst, _∙_}
+use mathlib.Core.Path.{sym, _∙_}
 use native.Mathlib.Omega.{arith}
-use Rattle.std.specs.Of.Vec.{vec-items}
-use Rattle.words.specs.Words.{texts}
-use Rattle.words.proofs.Pieces.{Found, found-none, found-blank, found-byte, found-all}
+use Rattle.words.proofs.Pieces.{found-none, found-blank, found-byte, found-all}
 use Rattle.words.proofs.split.Needs as need
 use Rattle.words.proofs.split.Needs.{then-is-blank·in-Continue-keep, else-is-blank}
 

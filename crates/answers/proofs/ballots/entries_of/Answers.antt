@@ -1,9 +1,7 @@
 use mathlib.Core.Path.{sym, ap, _∙_}
-use mathlib.Core.List.{append-nil}
 use Prim.Native.Nat.{_+_}
 use lib.ListN.{drop}
 use Rattle.std.specs.Of.Vec.{vec-items}
-use Rattle.std.proofs.shelf.Lists.{at-drop-all}
 use Rattle.answers.specs.Ballots.{entriesOf}
 use Rattle.answers.proofs.Reading.{before, more, stops, read-all}
 use Rattle.answers.proofs.ballots.entries_of.Needs as need

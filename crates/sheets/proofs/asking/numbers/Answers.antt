@@ -1,14 +1,14 @@
-use mathlib.Core.Path.{_≡_, sym, ap, subst, _∙_}
-use Prim.Native.Nat.{ℕ, _+_, _<_, _≤_}
+use mathlib.Core.Path.{_≡_, sym, ap, _∙_}
+use Prim.Native.Nat.{_+_, _<_, _≤_}
 use native.Mathlib.Omega.{arith}
-use lib.ListN.{length, length-set, length-replicate, take}
+use lib.ListN.{length, length-set, length-replicate}
 use Rattle.std.proofs.shelf.Lists.{take-more-set, take-all}
 use Rattle.std.proofs.shelf.Results.{err-from-errBy}
 use Rattle.std.specs.declared.result.Result.the-variants.{Ok}
-use Rattle.sheets.specs.Numbers.{number}
-use Rattle.sheets.specs.Steps.{andThen, from}
+use Rattle.fields.specs.Numbers.{number}
+use Rattle.fields.specs.Steps.{andThen, from}
 use Rattle.words.specs.Words.{texts}
-use Rattle.sheets.proofs.Rows.{Sofar, sofar-none, sofar-more, sofar-flaw, sofar-all}
+use Rattle.sheets.proofs.Rows.{sofar-none, sofar-more, sofar-flaw, sofar-all}
 use Rattle.sheets.proofs.asking.numbers.Needs as need
 
 pub loop-k-holds : need.loop-k-holds

@@ -1,7 +1,7 @@
 use mathlib.Core.Path.{_≡_}
 use Prim.Native.Nat.{_+_}
 use lib.ListN.{length, take}
-use Rattle.sheets.specs.Numbers.{number}
+use Rattle.fields.specs.Numbers.{number}
 use Rattle.sheets.proofs.Rows.{Sofar}
 use Rattle.sheets.proofs.asking.numbers.Given as given
 

@@ -1,6 +1,6 @@
 use native.Mathlib.Omega.{arith}
 use Rattle.std.proofs.shelf.Results.{err-from-errBy}
-use Rattle.sheets.specs.Numbers.{number}
+use Rattle.fields.specs.Numbers.{number}
 use Rattle.sheets.proofs.Rows.{sofar-none, sofar-more, sofar-flaw, sofar-all}
 use Rattle.sheets.proofs.asking.units.Needs as need
 

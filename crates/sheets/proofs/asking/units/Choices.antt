@@ -1,5 +1,5 @@
 use Rattle.std.specs.Of.Vec.{vec-items}
-use Rattle.sheets.specs.Numbers.{number}
+use Rattle.fields.specs.Numbers.{number}
 use Rattle.sheets.proofs.Rows.{Sofar}
 use Rattle.sheets.proofs.asking.units.Given as given
 

@@ -8,7 +8,7 @@ use Rattle.places.proofs.shape.Shape.place.Needs as need
 use Rattle.places.proofs.shape.Shape.place.Needs.{then-unit-self·by·then-unit-self, then-unit-self·by·else-unit-self·then-has}
 
 pub returns-then-not-begins : need.returns-then-not-begins
-returns-then-not-begins c = record { value = not-begun (c .args .self) (c .args .units .now) (sym (c .if-not-begins .ensures tt)); back = tt }
+returns-then-not-begins c = record { value = not-begun (c .args .self) (c .args .units .now) (sym (c .if-not-begins .ensures tt)); back = tt; bound = tt }
 
 pub loop-i-holds : need.loop-i-holds
 loop-i-holds c = first (c .args .self) (c .args .units .now) (c .with-seen .result) (sym (c .if-not-begins .ensures tt)) (c .with-seen .ensures .value)
@@ -22,6 +22,7 @@ returns-then-unit-self c =
         | then-unit-self·by·else-unit-self·then-has w ↦ refused (inr (sym (w .if-has .ensures tt)))
       ];
       back = tt;
+      bound = tt;
     }
 
 pub mul-place : need.mul-place
@@ -56,4 +57,4 @@ returns c =
     let is-begun = sym (c .if-not-begins .ensures tt) in
     let parts = begun-parts (c .args .self) (c .args .units .now) is-begun in
     let all = all-places (c .args .self) (c .args .units .now) (c .loop-i .i) (c .loop-i .place) (omega (arith, c .loop-i .kept .i-end (parts .0))) is-begun (c .loop-i .inv .0) (c .loop-i .inv .2) in
-    record { value = all .0; back = all .1 }
+    record { value = all .0; back = all .1; bound = all .2 }

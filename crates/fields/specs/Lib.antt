@@ -1,0 +1,4 @@
+pub mod Flaws
+pub mod Names
+pub mod Numbers
+pub mod Steps

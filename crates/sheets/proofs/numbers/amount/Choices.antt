@@ -1,9 +1,0 @@
-use mathlib.Core.Path.{_≡_}
-use Prim.Native.Nat.{min}
-use lib.ListN.{take, drop}
-use Rattle.sheets.specs.Numbers.{digit, every, value}
-use Rattle.sheets.proofs.numbers.amount.Given as given
-
-abbrev pub Inv-loop-byte : given.InvT-loop-byte
-Inv-loop-byte l =
-    (every digit (drop (l .byte-index) (l .word)) ≡ every digit (l .word)) × (l .total ≡ min (value (take (l .byte-index) (l .word))) 4294967296)

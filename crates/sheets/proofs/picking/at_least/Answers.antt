@@ -1,9 +1,0 @@
-use borrow.Author.Needs.{needs}
-use lib.ListN.{length-map}
-use Rattle.sheets.proofs.picking.at_least.Needs as need
-
-pub returns-then-words-count : need.returns-then-words-count
-returns-then-words-count c = search (needs, length-map)
-
-pub returns : need.returns
-returns c = search (needs, length-map)
