@@ -1,7 +1,7 @@
 -- Codes of triggers lie below 2^31 and read back.
 use Rattle.std.specs.Prelude.{◌≡◌, ℕ, ◌+◌, ◌/◌, ◌%◌, ◌^◌, ◌<◌, ℤ, pos, negsuc, ◌-ℤ◌, Some, refl}
 use Rattle.std.proofs.Common.{sym, ap, ◌∙◌, arith}
-use Rattle.std.proofs.Math.Logic.{Dec·and}
+use Rattle.std.proofs.Math.Logic.Dec
 use Rattle.std.proofs.lemmas.Int.{ints}
 use denote.Struct.Props.{props}
 use Rattle.std.proofs.lemmas.Bool.Decides.{nat_tests}
@@ -17,7 +17,7 @@ use Rattle.kinds.specs.RangeFacts.{provided_in, provided_some}
 pub from_parts : (t : Trigger) (channel : ℕ) (slope : Slope) (level : ℤ) → channel ≡ t.channel → slope ≡ t.slope → level ≡ t.level → trigger_from channel slope level ≡ Some t
 from_parts t channel slope level e f g =
     rw (e, f, g)
-    (provided_in _ (Dec·and (between 1 4 t.channel) (between_ℤ (negsuc 2047) (pos 2047) t.level)) (hlevel props) t.ok)
+    (provided_in _ (Dec.and (between 1 4 t.channel) (between_ℤ (negsuc 2047) (pos 2047) t.level)) (hlevel props) t.ok)
 
 -- triggers with equal parts are equal
 pub same_parts : (a b : Trigger) → a.channel ≡ b.channel → a.slope ≡ b.slope → a.level ≡ b.level → a ≡ b
@@ -52,7 +52,7 @@ trigger_reads t =
 
 trigger_coded : (c : ℕ) (t : Trigger) → trigger_of c ≡ Some t → trigger_code t ≡ c
 trigger_coded c t e =
-    let p = provided_some _ (Dec·and (between 1 4 (c / 8192 + 1)) (between_ℤ (negsuc 2047) (pos 2047) (pos (c % 4096) -ℤ pos 2048))) t e in
+    let p = provided_some _ (Dec.and (between 1 4 (c / 8192 + 1)) (between_ℤ (negsuc 2047) (pos 2047) (pos (c % 4096) -ℤ pos 2048))) t e in
     let s = slope_coded (c / 4096 % 2) (omega arith) in
     sym (ap trigger_code p.1) ∙ omega (arith, ints)
 

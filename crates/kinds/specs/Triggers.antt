@@ -1,6 +1,6 @@
 -- Triggers and their codes.
 use Rattle.std.specs.Prelude.{ℕ, ◌+◌, ◌-◌, ◌*◌, ◌/◌, ◌%◌, cond, ℤ, pos, negsuc, ◌+ℤ◌, ◌-ℤ◌, nat_abs, Option, ◌==◌, unsigned_abs}
-use Rattle.std.proofs.Math.Logic.{Dec·and}
+use Rattle.std.proofs.Math.Logic.Dec
 use Rattle.std.proofs.Common.{lit≤}
 use Rattle.std.specs.Int.Signed.{le_z_yes}
 use Rattle.kinds.specs.Models.{KindModel}
@@ -21,7 +21,7 @@ slope_of s = cond (s == 0) Rising Falling
 -- The trigger with these parts, for a channel from 1 to 4 and a level from -2048 to 2047.
 abbrev pub trigger_from : ℕ → Slope → ℤ → Option Trigger
 trigger_from channel slope level =
-    provided (Dec·and (between 1 4 channel) (between_ℤ (negsuc 2047) (pos 2047) level))
+    provided (Dec.and (between 1 4 channel) (between_ℤ (negsuc 2047) (pos 2047) level))
     (λ ok. record { channel = channel; slope = slope; level = level; ok = ok })
 
 -- The code of a trigger. Its level plus 2048 is not negative, so that nat_abs is that sum.

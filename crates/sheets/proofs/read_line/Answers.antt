@@ -6,24 +6,24 @@ use Rattle.sheets.proofs.Lines.{asks_none, asks_question, asks_flaw}
 use Rattle.sheets.proofs.read_line.Goals as goal
 use Rattle.sheets.proofs.read_line.Goals.{In-ok-words}
 
-found : (c : In-ok-words) → texts (vec_items c.in-ok-words.words) ≡ words c.args.line.now
-found c = c.in-ok-words.ensures
+found : (c : In-ok-words) → texts (vec_items c.in_ok-words.words) ≡ words c.args.line.now
+found c = c.in_ok-words.ensures
 
-pub returns-then-is-empty : goal.returns-then-is-empty
-returns-then-is-empty c =
-    let none = eqb-true _ 0 (sym c.if-is-empty.ensures) in
-    let size = c.in-ok-words.words.ok.0 in
-    asks_none c.args.line.now _ (found (goal.at.returns-then-is-empty c).In-ok-words) (omega arith)
+pub returns-then-is_empty : goal.returns-then-is_empty
+returns-then-is_empty c =
+    let none = eqb-true _ 0 (sym c.if-is_empty.ensures) in
+    let size = c.in_ok-words.words.ok.0 in
+    asks_none c.args.line.now _ (found (goal.at.returns-then-is_empty c).In-ok-words) (omega arith)
 
-pub returns-in-err-asked : goal.returns-in-err-asked
-returns-in-err-asked c =
-    let p = err_from_is_err_and c.from-residual-in-err-asked.result c.from-residual-in-err-asked.ensures.1 in
-    let some = eqb-false _ 0 (sym c.if-is-empty.ensures) in
-    let same = ap texts c.as-slice.ensures.value ∙ found (goal.at.returns-in-err-asked c).In-ok-words in
-    rw (p.1, p.2) (asks_flaw c.args.line.now c.as-slice.result.now _ same (omega arith) c.in-err-asked.ensures)
+pub returns-in_err-asked : goal.returns-in_err-asked
+returns-in_err-asked c =
+    let p = err_from_is_err_and c.from-residual-in_err-asked.result c.from-residual-in_err-asked.ensures.1 in
+    let some = eqb-false _ 0 (sym c.if-is_empty.ensures) in
+    let same = ap texts c.as_slice.ensures.value ∙ found (goal.at.returns-in_err-asked c).In-ok-words in
+    rw (p.1, p.2) (asks_flaw c.args.line.now c.as_slice.result.now _ same (omega arith) c.in_err-asked.ensures)
 
 pub returns : goal.returns
 returns c =
-    let some = eqb-false _ 0 (sym c.if-is-empty.ensures) in
-    let same = ap texts c.as-slice.ensures.value ∙ found (goal.at.returns c).In-ok-words in
-    asks_question c.args.line.now c.as-slice.result.now _ same (omega arith) c.in-ok-asked.ensures
+    let some = eqb-false _ 0 (sym c.if-is_empty.ensures) in
+    let same = ap texts c.as_slice.ensures.value ∙ found (goal.at.returns c).In-ok-words in
+    asks_question c.args.line.now c.as_slice.result.now _ same (omega arith) c.in_ok-asked.ensures

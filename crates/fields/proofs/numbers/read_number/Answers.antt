@@ -2,13 +2,13 @@ use Rattle.std.proofs.Common.{rules}
 use Rattle.fields.specs.Numbers.{number}
 use Rattle.fields.proofs.numbers.read_number.Goals as goal
 
-pub returns-then-is-some : goal.returns-then-is-some
+pub returns-then-is_some : goal.returns-then-is_some
 unfolding number
-returns-then-is-some c = search rules
+returns-then-is_some c = search rules
 
-pub returns-in-default : goal.returns-in-default
+pub returns-in_default : goal.returns-in_default
 unfolding number
-returns-in-default c = search rules
+returns-in_default c = search rules
 
 pub returns-then-n-gt4294967295 : goal.returns-then-n-gt4294967295
 unfolding number

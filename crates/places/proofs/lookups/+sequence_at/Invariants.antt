@@ -1,4 +1,4 @@
 use Rattle.places.proofs.lookups.+sequence_at.Given as goal
 
-abbrev pub decreases-sequence-at : goal.decreases-sequence-at
-decreases-sequence-at l = l.depth
+abbrev pub decreases-sequence_at : goal.decreases-sequence_at
+decreases-sequence_at l = l.depth

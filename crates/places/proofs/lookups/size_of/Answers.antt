@@ -4,12 +4,12 @@ use Rattle.places.proofs.Bounds.{size_most, size_next}
 use Rattle.places.proofs.lookups.size_of.Goals as goal
 
 pub loop-k-preserved : goal.loop-k-preserved
-loop-k-preserved c = size_next c.args.shape.n c.loop-k.k c.loop-k.size c.tabled-width-size.result c.loop-k.invariant c.tabled-width-size.ensures.value
+loop-k-preserved c = size_next c.args.shape.n c.loop-k.k c.loop-k.size c.tabled_width-size.result c.loop-k.invariant c.tabled_width-size.ensures.value
 
-pub overflow-add-size : goal.overflow-add-size
-overflow-add-size c = omega (
+pub overflow_add-size : goal.overflow_add-size
+overflow_add-size c = omega (
   arith,
-  size_next c.args.shape.n c.loop-k.k c.loop-k.size c.tabled-width-size.result c.loop-k.invariant c.tabled-width-size.ensures.value,
+  size_next c.args.shape.n c.loop-k.k c.loop-k.size c.tabled_width-size.result c.loop-k.invariant c.tabled_width-size.ensures.value,
   size_most c.args.shape.n (c.loop-k.k + 1) c.args.shape.most (omega arith),
 )
 

@@ -10,8 +10,8 @@ returns-then-seen-j c =
     free_at c.args.mask c.args.n c.loop-x.x c.loop-x-test.true (sym c.if-not-has.ensures)
     ∙ ap (λ k. get_or (free c.args.mask c.args.n) k 0) (sym c.loop-x.invariant.0 ∙ c.if-seen-j.true)
 
-pub overflow-add-seen : goal.overflow-add-seen
-overflow-add-seen c = omega (arith, free_few c.args.mask c.loop-x.x, c.loop-x.invariant.0)
+pub overflow_add-seen : goal.overflow_add-seen
+overflow_add-seen c = omega (arith, free_few c.args.mask c.loop-x.x, c.loop-x.invariant.0)
 
 pub loop-x-preserved : goal.loop-x-preserved
 loop-x-preserved c =

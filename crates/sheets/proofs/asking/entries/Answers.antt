@@ -9,12 +9,12 @@ loop-i-init c = simp c.new-entries.ensures.items (sofar_none entry _ _)
 
 pub loop-i-preserved : goal.loop-i-preserved
 loop-i-preserved c =
-    simp c.in-ok-push.ensures.items (sofar_more c.loop-i.invariant (omega arith, omega arith) c.in-ok-read-entry.ensures)
+    simp c.in_ok-push.ensures.items (sofar_more c.loop-i.invariant (omega arith, omega arith) c.in_ok-read_entry.ensures)
 
-pub returns-in-err-read-entry : goal.returns-in-err-read-entry
-returns-in-err-read-entry c =
+pub returns-in_err-read_entry : goal.returns-in_err-read_entry
+returns-in_err-read_entry c =
     let p = err_from_is_err_and c.from-residual.result c.from-residual.ensures.1 in
-    rw (p.1, p.2) (sofar_flaw c.loop-i.invariant (omega arith, omega arith) c.in-err-read-entry.ensures)
+    rw (p.1, p.2) (sofar_flaw c.loop-i.invariant (omega arith, omega arith) c.in_err-read_entry.ensures)
 
 pub returns : goal.returns
 returns c = sofar_all c.loop-i.invariant (omega arith)

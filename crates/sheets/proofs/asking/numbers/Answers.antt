@@ -15,17 +15,17 @@ pub loop-k-preserved : goal.loop-k-preserved
 loop-k-preserved g c =
     let here : c.loop-k.k < length c.loop-k.numbers = omega arith in
     let next : c.loop-k.k + 2 + 1 ≡ c.loop-k.k + 1 + 2 = omega arith in
-    let more = sofar_more c.loop-k.invariant.1 (omega arith, omega (arith, c.in-ok-exactly.ensures.enough)) c.in-ok-numbers.ensures in
+    let more = sofar_more c.loop-k.invariant.1 (omega arith, omega (arith, c.in_ok-exactly.ensures.enough)) c.in_ok-numbers.ensures in
     (length-set _ _ _ ∙ c.loop-k.invariant.0, rw (take_more_set, ← next) more)
 
-pub returns-in-err-numbers : goal.returns-in-err-numbers
-returns-in-err-numbers g c =
-    let p = err_from_is_err_and c.from-residual-in-err-numbers.result c.from-residual-in-err-numbers.ensures.1 in
-    let flaw = sofar_flaw c.loop-k.invariant.1 (omega arith, omega (arith, c.in-ok-exactly.ensures.enough)) c.in-err-numbers.ensures in
-    rw (p.1, p.2) (flaw ∙ ap (λ r. and_then r λ _. from number (texts c.args.words.now) 2) c.in-ok-exactly.ensures.value)
+pub returns-in_err-numbers : goal.returns-in_err-numbers
+returns-in_err-numbers g c =
+    let p = err_from_is_err_and c.from-residual-in_err-numbers.result c.from-residual-in_err-numbers.ensures.1 in
+    let flaw = sofar_flaw c.loop-k.invariant.1 (omega arith, omega (arith, c.in_ok-exactly.ensures.enough)) c.in_err-numbers.ensures in
+    rw (p.1, p.2) (flaw ∙ ap (λ r. and_then r λ _. from number (texts c.args.words.now) 2) c.in_ok-exactly.ensures.value)
 
 pub returns : goal.returns
 returns g c =
     let full : length c.loop-k.numbers ≤ c.loop-k.k = omega arith in
-    let all = sofar_all c.loop-k.invariant.1 (omega (arith, c.in-ok-exactly.ensures.enough)) in
-    ap Ok (sym (take_all _ _ full)) ∙ all ∙ ap (λ r. and_then r λ _. from number (texts c.args.words.now) 2) c.in-ok-exactly.ensures.value
+    let all = sofar_all c.loop-k.invariant.1 (omega (arith, c.in_ok-exactly.ensures.enough)) in
+    ap Ok (sym (take_all _ _ full)) ∙ all ∙ ap (λ r. and_then r λ _. from number (texts c.args.words.now) 2) c.in_ok-exactly.ensures.value

@@ -9,12 +9,12 @@ loop-i-init c = simp c.new-units.ensures.items (sofar_none number _ _)
 
 pub loop-i-preserved : goal.loop-i-preserved
 loop-i-preserved c =
-    simp c.in-ok-push.ensures.items (sofar_more c.loop-i.invariant (omega arith, omega arith) c.in-ok-read-number.ensures)
+    simp c.in_ok-push.ensures.items (sofar_more c.loop-i.invariant (omega arith, omega arith) c.in_ok-read_number.ensures)
 
-pub returns-in-err-read-number : goal.returns-in-err-read-number
-returns-in-err-read-number c =
+pub returns-in_err-read_number : goal.returns-in_err-read_number
+returns-in_err-read_number c =
     let p = err_from_is_err_and c.from-residual.result c.from-residual.ensures.1 in
-    rw (p.1, p.2) (sofar_flaw c.loop-i.invariant (omega arith, omega arith) c.in-err-read-number.ensures)
+    rw (p.1, p.2) (sofar_flaw c.loop-i.invariant (omega arith, omega arith) c.in_err-read_number.ensures)
 
 pub returns : goal.returns
 returns c = sofar_all c.loop-i.invariant (omega arith)

@@ -5,5 +5,5 @@ use Rattle.places.proofs.shape.Shape.first_entry.Goals as goal
 pub returns : goal.returns
 returns c = record {
   value = search rules;
-  bound = omega (arith, mul-le c.args.unit c.tree-size.result 20 7241 (omega arith) c.tree-size.ensures.bound, c.size-of.ensures.bound);
+  bound = omega (arith, mul-le c.args.unit c.tree_size.result 20 7241 (omega arith) c.tree_size.ensures.bound, c.size_of.ensures.bound);
 }

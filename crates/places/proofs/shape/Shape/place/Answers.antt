@@ -22,13 +22,13 @@ returns-then-unit-self c =
       bound = tt;
     }
 
-pub overflow-mul-place : goal.overflow-mul-place
-overflow-mul-place c =
+pub overflow_mul-place : goal.overflow_mul-place
+overflow_mul-place c =
     let parts = begun_parts c.args.self c.args.units.now (sym c.if-not-begins.ensures) in
     omega (arith, next_few c.args.self c.args.units.now c.loop-i.i c.loop-i.place c.loop-i.auto.i (omega arith) parts.1 c.loop-i.invariant.0 c.loop-i.invariant.2)
 
-pub overflow-add-place : goal.overflow-add-place
-overflow-add-place c =
+pub overflow_add-place : goal.overflow_add-place
+overflow_add-place c =
     let parts = begun_parts c.args.self c.args.units.now (sym c.if-not-begins.ensures) in
     omega (
       arith,
@@ -46,7 +46,7 @@ loop-i-preserved c =
     let shows = c.loop-i.invariant.1 in (
       yes_next shape us i _ c.loop-i.seen one l refl shows c.if-unit-self.false (sym c.if-has.ensures) c.loop-i.invariant.0,
       shows_next shape us i _ c.loop-i.seen one l refl shows c.with-seen-in-loop-i.result c.if-unit-self.false c.with-seen-in-loop-i.ensures.value,
-      place_next shape us i _ c.loop-i.seen one l refl shows c.loop-i.place c.absent-below.result c.if-unit-self.false c.loop-i.invariant.2 c.absent-below.ensures,
+      place_next shape us i _ c.loop-i.seen one l refl shows c.loop-i.place c.absent_below.result c.if-unit-self.false c.loop-i.invariant.2 c.absent_below.ensures,
     )
 
 pub returns : goal.returns

@@ -4,15 +4,15 @@ use Rattle.places.proofs.Places.{there, found_back}
 use Rattle.places.proofs.Shapes.{has_place}
 use Rattle.places.proofs.shape.Shape.sequence.Goals as goal
 
-pub sequence-at-requires : goal.sequence-at-requires
-sequence-at-requires c =
-    let t = there c.args.self c.args.level c.args.place (sym c.if-not-has-place.ensures) in
+pub sequence_at-requires : goal.sequence_at-requires
+sequence_at-requires c =
+    let t = there c.args.self c.args.level c.args.place (sym c.if-not-has_place.ensures) in
     record { deep = omega arith; low = t.2 }
 
 pub returns : goal.returns
 returns c =
-    let is-there = sym c.if-not-has-place.ensures in
+    let is-there = sym c.if-not-has_place.ensures in
     record {
-      value = ap Ok c.sequence-at.ensures.units ∙ sym (cond-true (has_place c.args.self c.args.level c.args.place) _ _ is-there);
-      back = found_back c.args.self c.args.level c.args.place _ is-there c.sequence-at.ensures.units;
+      value = ap Ok c.sequence_at.ensures.units ∙ sym (cond-true (has_place c.args.self c.args.level c.args.place) _ _ is-there);
+      back = found_back c.args.self c.args.level c.args.place _ is-there c.sequence_at.ensures.units;
     }

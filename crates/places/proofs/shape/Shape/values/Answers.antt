@@ -4,5 +4,5 @@ use Rattle.places.proofs.shape.Shape.values.Goals as goal
 
 pub returns : goal.returns
 returns c =
-    let e = ap (λ size. c.args.self.n * size) c.tree-size.ensures.value in
+    let e = ap (λ size. c.args.self.n * size) c.tree_size.ensures.value in
     record { value = e; bound = omega (arith, e, memory_most c.args.self.n c.args.self.levels c.args.self.most c.args.self.few) }

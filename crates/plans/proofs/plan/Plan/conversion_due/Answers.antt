@@ -11,6 +11,6 @@ returns-then-round-rounds c =
 pub returns : goal.returns
 returns c =
     let a = plan_gear c.args.self c.if-self-eq0.false in
-    let full = ap (λ x. x * c.args.self.gear) c.full-blocks.ensures.value in
-    c.ends-full-block.ensures
+    let full = ap (λ x. x * c.args.self.gear) c.full_blocks.ensures.value in
+    c.ends_full_block.ensures
     ∙ sym (due_full c.args.self.t c.args.self.gear a.0 a.2 c.args.round c.rounds.result _ c.rounds.ensures full c.if-round-rounds.false)

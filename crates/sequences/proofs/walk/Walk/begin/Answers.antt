@@ -5,14 +5,14 @@ use Rattle.sequences.proofs.Bounds.{wide, some_wide}
 use Rattle.sequences.proofs.walk.Walk.begin.Goals as goal
 
 -- the width that the table has, counted by the depth
-wide_is : (c : goal.After-tabled-width) → c.tabled-width.result ≡ falling c.args.n c.args.depth
-wide_is c = let e : c.args.depth + 1 - 1 ≡ c.args.depth = omega arith in c.tabled-width.ensures.value ∙ ap (falling c.args.n) e
+wide_is : (c : goal.After-tabled_width) → c.tabled_width.result ≡ falling c.args.n c.args.depth
+wide_is c = let e : c.args.depth + 1 - 1 ≡ c.args.depth = omega arith in c.tabled_width.ensures.value ∙ ap (falling c.args.n) e
 
-pub overflow-sub-tabled-width : goal.overflow-sub-tabled-width
-overflow-sub-tabled-width c = omega (arith, wide_is c, some_wide c.args.n c.args.depth (omega arith))
+pub overflow_sub-tabled_width : goal.overflow_sub-tabled_width
+overflow_sub-tabled_width c = omega (arith, wide_is c, some_wide c.args.n c.args.depth (omega arith))
 
-pub first-under-requires : goal.first-under-requires
-first-under-requires c =
+pub first_under-requires : goal.first_under-requires
+first_under-requires c =
     let n = c.args.n in
     let s = c.args.source in
     let d = c.args.depth in

@@ -10,13 +10,13 @@ returns c =
     let n = c.args.n in
     let s = c.args.source in
     let d = c.args.depth in
-    let m = c.units-at-above.result in
-    let w = c.absent-from-last.result in
+    let m = c.units_at-above.result in
+    let w = c.absent_from-last.result in
     let is = unit_in n s c.requires.within in
-    let shows = c.units-at-above.ensures in
+    let shows = c.units_at-above.ensures in
     let fan = fan_is n s is d c.args.parent m c.requires.below c.requires.low shows in
     let low : w < n = ⊎_elim (λ (l : w < n). l)
-    (λ (g : n ≤ w). let e : w ≡ n = omega (arith, c.absent-from-last.ensures.bound) in
-    absurd (omega (arith, fan, c.absent-from-last.ensures.rank, ap (λ x. length (free m x)) e))) (cases_lt w n) in
-    arrived n s is d c.args.parent m c.requires.below c.requires.low shows c.args.place w low (c.absent-from-last.ensures.out low)
-    (omega (arith, c.requires.first, c.absent-from-last.ensures.rank)) c.with.result c.args.left (omega arith) c.with.ensures.value c.requires.rest
+    (λ (g : n ≤ w). let e : w ≡ n = omega (arith, c.absent_from-last.ensures.bound) in
+    absurd (omega (arith, fan, c.absent_from-last.ensures.rank, ap (λ x. length (free m x)) e))) (cases_lt w n) in
+    arrived n s is d c.args.parent m c.requires.below c.requires.low shows c.args.place w low (c.absent_from-last.ensures.out low)
+    (omega (arith, c.requires.first, c.absent_from-last.ensures.rank)) c.with.result c.args.left (omega arith) c.with.ensures.value c.requires.rest
