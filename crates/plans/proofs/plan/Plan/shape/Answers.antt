@@ -5,4 +5,4 @@ pub invariant_of-result : goal.invariant_of-result
 invariant_of-result c =
     let range = plan_range c.args.self in
     let high = plan_height c.args.self c.levels.result c.levels.ensures in
-    (range.0, (range.1, (range.2, (high.0, (high.1, tt)))))
+    record { least = range.0; most = range.1; within = range.2; some = high.0; few = high.1 }
