@@ -10,7 +10,7 @@ returns-in-Err g c =
 
 pub loop-code-preserved : goal.loop-code-preserved
 loop-code-preserved g c =
-    ap (λ es. before es (entries_of g.K.Kind.model (drop (c.loop-code.code-index + 1) c.args.codes.now))) c.in_ok-push.ensures.items
+    ap (λ es. before es (entries_of g.K.Kind.model (drop (c.loop-code.code-index + 1) c.args.codes.now))) c.in_ok-push-in-Ok.ensures.items
     ∙ (sym (more g.K.Kind.model c.args.codes.now c.loop-code.code-index _ c.loop-code-test.true (vec_items c.loop-code.entries) c.in-Ok.entry c.in-Ok.ensures)
     ∙ c.loop-code.invariant)
 

@@ -20,7 +20,7 @@ loop-k-preserved g c =
 
 pub returns-in_err-numbers : goal.returns-in_err-numbers
 returns-in_err-numbers g c =
-    let p = err_from_is_err_and c.from-residual-in_err-numbers.result c.from-residual-in_err-numbers.ensures.1 in
+    let p = err_from_is_err_and c.from_residual-in_err-numbers.result c.from_residual-in_err-numbers.ensures.1 in
     let flaw = sofar_flaw c.loop-k.invariant.1 (omega arith, omega (arith, c.in_ok-exactly.ensures.enough)) c.in_err-numbers.ensures in
     rw (p.1, p.2) (flaw ∙ ap (λ r. and_then r λ _. from number (texts c.args.words.now) 2) c.in_ok-exactly.ensures.value)
 

@@ -13,7 +13,7 @@ loop-i-preserved c =
 
 pub returns-in_err-read_number : goal.returns-in_err-read_number
 returns-in_err-read_number c =
-    let p = err_from_is_err_and c.from-residual.result c.from-residual.ensures.1 in
+    let p = err_from_is_err_and c.from_residual.result c.from_residual.ensures.1 in
     rw (p.1, p.2) (sofar_flaw c.loop-i.invariant (omega arith, omega arith) c.in_err-read_number.ensures)
 
 pub returns : goal.returns
