@@ -1,4 +1,6 @@
 //! Answers to the questions of a bench sheet.
+#![tactic(auto)]
+
 ghost use Rattle.std.specs.Prelude.{◌≡◌, IfOk, MatchResult};
 ghost use Rattle.std.specs.Option.{option_map};
 ghost use Rattle.lines.specs.States.{view};

@@ -12,15 +12,15 @@ converted answer n t (suc e) held α = answer (map (λ w. converted answer n t e
 
 -- the root's answer, ground if it is open, where the newest closed level is d steps below the root
 abbrev pub preferred : {V : Type 0} → V → Answer V → ℕ → ℕ → ℕ → ℕ → (List ℕ → V) → V
-preferred ground answer n s t d held = unwrap_or (converted answer n t d held (s ∷ [])) ground
+preferred base answer n s t d held = unwrap_or (converted answer n t d held (s ∷ [])) base
 
 -- a unit's tree with v at its first place and ground at all others
 abbrev pub settled_at : {V : Type 0} → V → V → List ℕ → V
-settled_at ground v α = cond (length α == 1) v ground
+settled_at base v α = cond (length α == 1) v base
 
 -- the trees after a conversion: each unit but the source has its preference at its first place and ground at all others
 abbrev pub shifted : {V : Type 0} → V → Answer V → ℕ → ℕ → ℕ → ℕ → Trees V → Trees V
-shifted ground answer n s t d trees p α = cond (p == s) (trees p α) (settled_at ground (preferred ground answer n s t d (trees p)) α)
+shifted base answer n s t d trees p α = cond (p == s) (trees p α) (settled_at base (preferred base answer n s t d (trees p)) α)
 
 -- the work memory after it: as many open entries as a tree has values, then what was there
 abbrev pub opened : {V : Type 0} → ℕ → List (Option V) → List (Option V)

@@ -15,4 +15,4 @@ voted answer n t d work p α = cond (length α == suc d) (answer (map (λ w. wor
 
 -- a unit's first place takes v, its other places become ground
 abbrev pub settled : {V : Type 0} → V → ℕ → V → Trees V → Trees V
-settled ground unit v trees p α = cond (p == unit) (settled_at ground v α) (trees p α)
+settled base unit v trees p α = cond (p == unit) (settled_at base v α) (trees p α)

@@ -1,4 +1,5 @@
 //! The words of a sheet's line read as numbers and names.
+#![tactic(auto)]
 
 mod forms;
 mod names;

@@ -1,5 +1,5 @@
 -- Triggers and their codes.
-use Rattle.std.specs.Prelude.{ℕ, ◌+◌, ◌-◌, ◌*◌, ◌/◌, ◌%◌, cond, ℤ, pos, negsuc, ◌+ℤ◌, ◌-ℤ◌, nat_abs, Option, ◌==◌, unsigned_abs}
+use Rattle.std.specs.Prelude.{ℕ, ◌+◌, ◌-◌, ◌*◌, ◌/◌, ◌%◌, cond, ℤ, pos, negsuc, ◌+ℤ◌, ◌-ℤ◌, Option, ◌==◌, unsigned_abs}
 use Rattle.std.proofs.Math.Logic.Dec
 use Rattle.std.proofs.Common.{lit≤}
 use Rattle.std.specs.Int.Signed.{le_z_yes}

@@ -1,4 +1,6 @@
 //! Kinds of value: each value of a kind has a code, and a code is read back as its value.
+#![tactic(auto)]
+
 ghost use Rattle.std.specs.Prelude.{◌≡◌};
 ghost use Rattle.kinds.specs.Models.{KindModel, Lawful, same_value};
 

@@ -1,4 +1,6 @@
 //! Results that are known beforehand, shown of the layers' definitions and worked out again by their code.
+#![tactic(auto)]
+
 ghost use Rattle.std.specs.Prelude.{◌≡◌, true};
 ghost use Rattle.known.specs.Results.{Known, has_code};
 

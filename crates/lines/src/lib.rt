@@ -1,4 +1,5 @@
 //! Lines: what arrives of the codes that units give to one another, and which units are loose.
+#![tactic(auto)]
 
 mod clean;
 mod fault;

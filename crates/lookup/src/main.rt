@@ -1,4 +1,6 @@
 //! Answers a bench sheet from standard input, a question a line.
+#![tactic(auto)]
+
 mod wording;
 
 use answers::forms::Outcome;

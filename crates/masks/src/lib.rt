@@ -1,4 +1,5 @@
 //! Masks: sets of units as 32-bit numbers, bit i for unit i.
+#![tactic(auto)]
 
 ghost use Rattle.std.specs.Prelude.{◌≡◌, ℕ, ◌^◌, ◌&&◌, ◌||◌, ◌==◌, bit_or, nat_lt};
 ghost use Rattle.masks.specs.Masks.{holds, joined_by, size, within};

@@ -4,7 +4,6 @@ use lib.Bits.{bit_or, or_zero_l}
 use Rattle.std.proofs.lemmas.List.{reverse-append, length-append, length-reverse, length-take-le, take_more, take_all, take-append-drop}
 use Rattle.std.proofs.lemmas.Nat.{mul-le}
 use Rattle.std.proofs.lemmas.Bool.{and_parts, and_from, and_left, and_cases, cases_Bool, both_ways, lt-ltb, le-ltb, leb-true, eqb-true, eq-eqb, not_from_true, not_from_false, cond-true, cond-false}
-use Rattle.masks.specs.Lists.{units}
 use Rattle.masks.specs.Masks.{holds, joined_by}
 use Rattle.places.specs.declared.fault.PlaceFault.TheVariants.{Absent}
 use Rattle.places.specs.declared.shape.Shape.{Shape}

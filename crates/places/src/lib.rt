@@ -1,4 +1,5 @@
 //! Where values stand: sequences of units, their levels and places, and the sizes of trees.
+#![tactic(auto)]
 
 ghost use Rattle.std.specs.Prelude.{◌≡◌};
 ghost use Rattle.places.specs.Numbers.{units_wrong};

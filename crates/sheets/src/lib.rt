@@ -1,4 +1,6 @@
 //! Reading one line of a bench sheet into the question that it asks.
+#![tactic(auto)]
+
 ghost use Rattle.std.specs.Option.{option_map};
 ghost use Rattle.sheets.specs.Asked.{seen};
 ghost use Rattle.sheets.specs.Lines.{line_of};

@@ -20,7 +20,7 @@ cell n h p α = p * tree_size n h + (tree_size n (length α - 1) + place n α)
 
 -- the trees that a memory holds
 abbrev pub at : {V : Type 0} → ℕ → ℕ → V → List V → Trees V
-at n h ground memory p α = slice_index_or memory (cell n h p α) ground
+at n h base memory p α = slice_index_or memory (cell n h p α) base
 
 -- the memory that holds the first m of the trees; entries past them are those of the old memory
 abbrev pub planted : {V : Type 0} → ℕ → ℕ → ℕ → ℕ → Trees V → List V → List V
@@ -32,4 +32,4 @@ laid n s h trees old = planted n n s h trees old
 
 -- the memory after a rule has changed the trees that it holds
 abbrev pub stepped : {V : Type 0} → ℕ → ℕ → ℕ → V → (Trees V → Trees V) → List V → List V
-stepped n s h ground rule old = laid n s h (rule (at n h ground old)) old
+stepped n s h base rule old = laid n s h (rule (at n h base old)) old

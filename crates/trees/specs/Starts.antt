@@ -4,4 +4,4 @@ use Rattle.trees.specs.Layouts.{Trees}
 
 -- every place is ground, but the source's first place holds the value
 abbrev pub started : {V : Type 0} → V → ℕ → V → Trees V
-started ground source value p α = cond (p == source && length α == 1) value ground
+started base source value p α = cond (p == source && length α == 1) value base

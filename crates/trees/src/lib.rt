@@ -1,4 +1,5 @@
 //! Trees of values in memory: unit after unit, level after level, a level in the order of its places.
+#![tactic(auto)]
 
 ghost use Rattle.trees.specs.Laws.{LaysBack, ReadsBack};
 

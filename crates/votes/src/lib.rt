@@ -1,4 +1,6 @@
 //! Votes: a vote makes one answer from entries, each a value or open, and a number t.
+#![tactic(auto)]
+
 ghost use Rattle.std.specs.Prelude.{◌≡◌};
 ghost use Rattle.votes.specs.Laws.{Answer, FirstLaw, MajorityLaw};
 

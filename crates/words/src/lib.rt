@@ -1,4 +1,6 @@
 //! The words of a line of text: what stands between blanks, before a comment.
+#![tactic(auto)]
+
 ghost use Rattle.std.specs.Prelude.{◌≡◌, [], ◌∷◌, ◌++◌, is_ok, IfOk, if◌then◌else◌};
 ghost use Rattle.words.specs.Words.{blank, uncommented, pieces, filled, texts, words};
 
