@@ -17,7 +17,7 @@ abbrev passed : (test : Bool) → Dec (T test)
 passed true = yes tt
 passed false = no (λ t. t)
 
--- Whether a is at most b, for integers: the test `le_z` says so.
+-- Whether a is at most b, for integers: the test `int_le` says so.
 abbrev ordered : {a b : ℤ} → Dec (T (int_le a b)) → Dec (a ≤ℤ b)
 ordered (yes t) = yes (record { le = t })
 ordered (no f) = no (λ h. f h.le)

@@ -24,7 +24,7 @@ trigger_from channel slope level =
     provided (Dec.and (between 1 4 channel) (between_ℤ (negsuc 2047) (pos 2047) level))
     (λ ok. record { channel = channel; slope = slope; level = level; ok = ok })
 
--- The code of a trigger. Its level plus 2048 is not negative, so that nat_abs is that sum.
+-- The code of a trigger. Its level plus 2048 is not negative, so that `unsigned_abs` is that sum.
 abbrev pub trigger_code : Trigger → ℕ
 trigger_code t = ((t.channel - 1) * 2 + slope_code t.slope) * 4096 + unsigned_abs (t.level +ℤ pos 2048)
 

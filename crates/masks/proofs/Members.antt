@@ -94,10 +94,10 @@ pub counting_in : (a n w : ℕ) → a ≤ w → w < a + n → In w (range_with_l
 counting_in a zero w h l = absurd (omega arith)
 counting_in a (suc n) w h l = ⊎_elim (λ e. inl e) (λ e. inr (counting_in (a + 1) n w (omega arith) (omega arith))) (cases_eq w a)
 
-pub get_d_in : {X : Type 0} (xs : List X) (i : ℕ) (d : X) → i < length xs → In (get_or xs i d) xs
-get_d_in [] i d l = absurd (omega arith)
-get_d_in (x ∷ xs) zero d l = inl refl
-get_d_in (x ∷ xs) (suc i) d l = inr (get_d_in xs i d (omega arith))
+pub get_or_in : {X : Type 0} (xs : List X) (i : ℕ) (d : X) → i < length xs → In (get_or xs i d) xs
+get_or_in [] i d l = absurd (omega arith)
+get_or_in (x ∷ xs) zero d l = inl refl
+get_or_in (x ∷ xs) (suc i) d l = inr (get_or_in xs i d (omega arith))
 
 pub unit_in : (n u : ℕ) → u < n → In u (units n)
 unit_in n u l = counting_in 0 n u (omega arith) (omega arith)

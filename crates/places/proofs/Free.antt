@@ -14,7 +14,7 @@ use Rattle.masks.specs.Lists.{In, units}
 use Rattle.masks.specs.Masks.{holds}
 use Rattle.masks.proofs.Bits.{one_bit, bit_joined}
 use Rattle.masks.proofs.Counting.{num, count_cons, count_le, count_all, counting_more}
-use Rattle.masks.proofs.Members.{in_kept, kept_in, counting_in, in_counting, get_d_in}
+use Rattle.masks.proofs.Members.{in_kept, kept_in, counting_in, in_counting, get_or_in}
 use Rattle.places.specs.Sequences.{among, absent, sequences}
 use Rattle.places.specs.Units.{Shows, free}
 use Rattle.places.proofs.Index.{none_below, rank, level_digit}
@@ -102,7 +102,7 @@ free_all m n x seen j l e is le = omega (arith, ap (λ y. length (free m y)) e)
 pub free_below : (m n j : ℕ) → j < length (free m n) → get_or (free m n) j 0 < n
 free_below m n j l =
     let q = λ (y : ℕ). not (holds m y) in
-    let i = in_counting 0 n (get_or (free m n) j 0) (in_kept q (units n) (get_or (free m n) j 0) (get_d_in (free m n) j 0 l)).0 in
+    let i = in_counting 0 n (get_or (free m n) j 0) (in_kept q (units n) (get_or (free m n) j 0) (get_or_in (free m n) j 0 l)).0 in
     omega arith
 
 pub root_place : (n s k i r : ℕ) → k ≡ 0 → i < length (sequences n s k) → r ≡ 2 ^ s → Shows r (get_or (sequences n s k) i [])
@@ -113,19 +113,19 @@ root_place n s (suc k) i r z l e = absurd (omega arith)
 -- the sequence at a place ends in the unit of its number among those that its parent leaves out
 pub place_splits : (n s : ℕ) (is : In s (units n)) (k i m w : ℕ) → 0 < k → i < length (sequences n s k) → Shows m (get_or (sequences n s (k - 1)) (i / (n - k)) [])
     → w ≡ get_or (free m n) (i % (n - k)) 0 → get_or (sequences n s k) i [] ≡ w ∷ get_or (sequences n s (k - 1)) (i / (n - k)) []
-place_splits n s is zero i m w p l shows is-w = absurd (omega arith)
-place_splits n s is (suc k) i m w p l shows is-w =
+place_splits n s is zero i m w p l shows is_w = absurd (omega arith)
+place_splits n s is (suc k) i m w p l shows is_w =
     let e : suc k - 1 ≡ k = omega arith in
     let β = get_or (sequences n s k) (i / (n - suc k)) [] in
     let sh : Shows m β = subst (λ j. Shows m (get_or (sequences n s j) (i / (n - suc k)) [])) e shows in
-    let ew : w ≡ get_or (absent n β) (i % (n - suc k)) 0 = is-w ∙ ap (λ xs. get_or xs (i % (n - suc k)) 0) (free_absent m n β sh) in
+    let ew : w ≡ get_or (absent n β) (i % (n - suc k)) 0 = is_w ∙ ap (λ xs. get_or xs (i % (n - suc k)) 0) (free_absent m n β sh) in
     subst (λ j. get_or (sequences n s (suc k)) i [] ≡ w ∷ get_or (sequences n s j) (i / (n - suc k)) []) (sym e) ((level_digit n s is k i l).2 ∙ ap (λ x. x ∷ β) (sym ew))
 
 pub place_shows : (n s : ℕ) (is : In s (units n)) (k i m w r : ℕ) → 0 < k → i < length (sequences n s k) → Shows m (get_or (sequences n s (k - 1)) (i / (n - k)) [])
     → w ≡ get_or (free m n) (i % (n - k)) 0 → r ≡ bit_or m (2 ^ w) → Shows r (get_or (sequences n s k) i [])
-place_shows n s is k i m w r p l shows is-w is-r =
+place_shows n s is k i m w r p l shows is_w is_r =
     let β = get_or (sequences n s (k - 1)) (i / (n - k)) [] in
-    subst (λ γ. Shows r γ) (sym (place_splits n s is k i m w p l shows is-w)) (subst (λ x. Shows x (w ∷ β)) (sym is-r) (child_shows m w β shows))
+    subst (λ γ. Shows r γ) (sym (place_splits n s is k i m w p l shows is_w)) (subst (λ x. Shows x (w ∷ β)) (sym is_r) (child_shows m w β shows))
 
 bit : (b : ℕ) → b < 2 → num (not (eqb b 1)) + ones b ≡ 1
 bit zero l = omega (arith, ones-le 0 0 (omega arith))

@@ -86,8 +86,8 @@ module _ (shape : Shape) (us : List ℕ) where
     pub not_next : ((shape.n ≤ u) ⊎ (holds seen u ≡ true)) → Err Absent ≡ place_answer shape us
     not_next bad = ⊎_elim
         (λ t. let has = and_parts (has_level shape.levels (length us)) (proper shape.n shape.source (reverse us)) t in
-        let is-next = sym next_proper ∙ front_proper us shape.n shape.source (i + 1) (omega arith) (omega arith) has.1 in
-        let a = and_parts (ltb u shape.n) _ is-next in
+        let is_next = sym next_proper ∙ front_proper us shape.n shape.source (i + 1) (omega arith) (omega arith) has.1 in
+        let a = and_parts (ltb u shape.n) _ is_next in
         let b = and_parts (not (holds seen u)) _ a.1 in
         absurd (⊎_elim (λ h. both_ways (ltb u shape.n) (le-ltb u shape.n h) a.0) (λ h. both_ways (not (holds seen u)) (not_from_true (holds seen u) h) b.0) bad))
         (λ f. refused f)
@@ -144,13 +144,13 @@ module _ (shape : Shape) (us : List ℕ) where
   pub all_places : (i at : ℕ) → i ≡ length us → begun shape us ≡ true → proper shape.n shape.source (front us i) ≡ true
       → at ≡ place shape.n (front us i)
       → (Ok at ≡ place_answer shape us) × (sequence_at shape (length us) at ≡ reverse us) × (at < 6840)
-  all_places i at end t is-proper e =
+  all_places i at end t is_proper e =
       let parts = begun_parts t in
       let whole : front us i ≡ reverse us = ap reverse (take_all i us (omega arith)) in
       let has = (and_parts (has_level shape.levels (length us)) (eqb (get_or us 0 0) shape.source) t).0 in
-      let p : proper shape.n shape.source (reverse us) ≡ true = sym (ap (proper shape.n shape.source) whole) ∙ is-proper in
+      let p : proper shape.n shape.source (reverse us) ≡ true = sym (ap (proper shape.n shape.source) whole) ∙ is_proper in
       let f : at ≡ place shape.n (reverse us) = e ∙ ap (place shape.n) whole in
-      let seat = front_place i (omega arith) (omega arith) parts.1 is-proper in (
+      let seat = front_place i (omega arith) (omega arith) parts.1 is_proper in (
         sym (cond-true (has_level shape.levels (length us) && proper shape.n shape.source (reverse us)) _ _ (and_from _ _ has p) ∙ ap Ok (sym f)),
         ap₂ (λ x y. get_or (sequences shape.n shape.source (x - 1)) y []) (sym end) e ∙ (seat.1 ∙ whole),
         omega (arith, e, seat.0),

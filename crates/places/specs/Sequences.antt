@@ -1,11 +1,11 @@
 -- A sequence is a list of distinct units that begins with the source. It is written here with its last unit first: the child of α that ends in w is w ∷ α.
-use Rattle.std.specs.Prelude.{ℕ, zero, suc, ◌+◌, ◌-◌, ◌*◌, Bool, false, not, ◌&&◌, ltb, List, [], ◌∷◌, map, length, count_by, filter, ◌==◌, nat_eq, nat_lt}
+use Rattle.std.specs.Prelude.{ℕ, zero, suc, ◌+◌, ◌-◌, ◌*◌, Bool, false, not, ◌&&◌, List, [], ◌∷◌, map, length, count_by, filter, ◌==◌, nat_lt}
 use Rattle.std.specs.List.{flat_map}
 use Rattle.masks.specs.Lists.{some, units}
 
 -- the unit w is one of α
 abbrev pub among : List ℕ → ℕ → Bool
-among α w = some (λ u. nat_eq w u) α
+among α w = some (λ u. w == u) α
 
 -- the units that are not in α, lowest first
 abbrev pub absent : ℕ → List ℕ → List ℕ
@@ -24,7 +24,7 @@ level n s k = sequences n s (k - 1)
 abbrev pub place : ℕ → List ℕ → ℕ
 place n [] = 0
 place n (w ∷ []) = 0
-place n (w ∷ (u ∷ α)) = place n (u ∷ α) * (n - length (u ∷ α)) + count_by (λ x. ltb x w) (absent n (u ∷ α))
+place n (w ∷ (u ∷ α)) = place n (u ∷ α) * (n - length (u ∷ α)) + count_by (λ x. nat_lt x w) (absent n (u ∷ α))
 
 -- α is a sequence: the source alone, or a sequence lengthened by an absent unit
 abbrev pub proper : ℕ → ℕ → List ℕ → Bool

@@ -116,13 +116,13 @@ module _ (t b : ℕ) (least : 2 ≤ b) (low : b ≤ t) where
           (cases_Bool (eqb k (1 + x * b)))
 
   -- as the code finds it: at the end of the run, or else by the rounds of the full blocks
-  module _ (k all full : ℕ) (is_all : all ≡ rounds t b) (is-full : full ≡ full_blocks t b * b) where
+  module _ (k all full : ℕ) (is_all : all ≡ rounds t b) (is_full : full ≡ full_blocks t b * b) where
     pub due_last : k ≡ all → due_after t b k ≡ true
     due_last e = due_is k ∙ or_left (eqb k (rounds t b)) _ (eq-eqb k (rounds t b) (e ∙ is_all))
 
     pub due_full : (k ≡ all → ⊥) → due_after t b k ≡ (ltb 1 k && (leb k (1 + full) && eqb ((k - 1) % b) 0))
     due_full other =
-        due_is k ∙ ap₂ (λ p f. p || (ltb 1 k && (leb k (1 + f) && eqb ((k - 1) % b) 0))) (ne_eqb k (rounds t b) (λ e. other (e ∙ sym is_all))) (sym is-full)
+        due_is k ∙ ap₂ (λ p f. p || (ltb 1 k && (leb k (1 + f) && eqb ((k - 1) % b) 0))) (ne_eqb k (rounds t b) (λ e. other (e ∙ sym is_all))) (sym is_full)
 
   nth_full : (x i : ℕ) (rest : List ℕ) → i < x → slice_get (replicate x b ++ rest) i ≡ Some b
   nth_full zero i rest l = absurd (omega arith)
@@ -134,7 +134,7 @@ module _ (t b : ℕ) (least : 2 ≤ b) (low : b ≤ t) where
   nth_rest (suc x) i rest = let e : suc x + i ≡ suc (x + i) = omega arith in ap (slice_get (b ∷ (replicate x b ++ rest))) e ∙ nth_rest x i rest
 
   -- the block at an index
-  module _ (i full : ℕ) (is-full : full ≡ full_blocks t b) where
+  module _ (i full : ℕ) (is_full : full ≡ full_blocks t b) where
     pub block_full : i < full → slice_get (blocks t b) i ≡ Some b
     block_full l = ap (λ bs. slice_get bs i) parted ∙ nth_full (full_blocks t b) i (short_block t b) (omega arith)
 
@@ -146,7 +146,7 @@ module _ (t b : ℕ) (least : 2 ≤ b) (low : b ≤ t) where
     pub block_short : i ≡ full → ((t - 1) % (b - 1) ≡ 0 → ⊥) → slice_get (blocks t b) i ≡ Some (t - full * (b - 1))
     block_short e z =
         let none : i - full ≡ 0 = omega arith in
-        past (omega arith) ∙ (ap₂ slice_get (cond-false (eqb ((t - 1) % (b - 1)) 0) _ _ (ne_eqb ((t - 1) % (b - 1)) 0 z)) none ∙ ap (λ x. Some (t - x * (b - 1))) (sym is-full))
+        past (omega arith) ∙ (ap₂ slice_get (cond-false (eqb ((t - 1) % (b - 1)) 0) _ _ (ne_eqb ((t - 1) % (b - 1)) 0 z)) none ∙ ap (λ x. Some (t - x * (b - 1))) (sym is_full))
 
     pub block_none : full ≤ i → ((t - 1) % (b - 1) ≡ 0) ⊎ (i ≡ full → ⊥) → slice_get (blocks t b) i ≡ None
     block_none l why = past l ∙ ⊎_elim

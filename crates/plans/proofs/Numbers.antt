@@ -21,8 +21,8 @@ allowed n t gear g w =
     inl (eqb-true gear 0 z, ltb-false t 1 a.0, ltb-false 3 t b.0, ltb-false n (3 * t + 1) b.1))
     (λ z. let a = or_parts (ltb t gear) (ltb 5 t || ltb n (4 * t + 1)) (sym (cond-false (eqb gear 0) low other z) ∙ w) in
     let b = or_parts (ltb 5 t) (ltb n (4 * t + 1)) a.1 in
-    let not-zero = eqb-false gear 0 z in
-    let not-one = eqb-false gear 1 gears.0 in
+    let not_zero = eqb-false gear 0 z in
+    let not_one = eqb-false gear 1 gears.0 in
     inr (omega arith, ltb-false 3 gear gears.1, ltb-false t gear a.0, ltb-false 5 t b.0, ltb-false n (4 * t + 1) b.1))
     (cases_Bool (eqb gear 0))
 

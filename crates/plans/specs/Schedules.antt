@@ -1,5 +1,5 @@
 -- The rounds of a run. Round 1 is followed by blocks, and each block ends in a conversion.
-use Rattle.std.specs.Prelude.{ℕ, ◌+◌, ◌-◌, ◌*◌, ◌/◌, ◌%◌, Bool, cond, List, [], ◌∷◌, ◌++◌, replicate, sum, ◌==◌, nat_eq}
+use Rattle.std.specs.Prelude.{ℕ, ◌+◌, ◌-◌, ◌*◌, ◌/◌, ◌%◌, Bool, cond, List, [], ◌∷◌, ◌++◌, replicate, sum, ◌==◌}
 use Rattle.masks.specs.Lists.{some}
 
 -- how many levels a tree has: t + 1 in gear 0, b + 1 in gear b
@@ -29,4 +29,4 @@ block_ends r (b ∷ bs) = (r + b) ∷ block_ends (r + b) bs
 
 -- a conversion is due after this round: it is the last of a block
 abbrev pub due_after : ℕ → ℕ → ℕ → Bool
-due_after t gear round = some (λ end. nat_eq round end) (block_ends 1 (blocks t gear))
+due_after t gear round = some (λ end. round == end) (block_ends 1 (blocks t gear))

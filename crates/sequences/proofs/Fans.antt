@@ -6,7 +6,7 @@ use Rattle.std.proofs.lemmas.Bool.{not_from_false, cases_lt, cond-true, lt-ltb}
 use Rattle.masks.specs.Lists.{In, units}
 use Rattle.masks.specs.Masks.{holds, joined_by}
 use Rattle.masks.proofs.Counting.{num}
-use Rattle.masks.proofs.Members.{kept_in, unit_in, get_d_in}
+use Rattle.masks.proofs.Members.{kept_in, unit_in, get_or_in}
 use Rattle.sequences.specs.Sequences.{sequences, last_of}
 use Rattle.sequences.specs.Units.{Shows, free}
 use Rattle.sequences.specs.Walks.{Under, On}
@@ -24,7 +24,7 @@ module _ (n s : ℕ) (is : In s (units n)) (k parent above : ℕ) (pos : 0 < k) 
   pub fan_is : length (free above n) ≡ n - k
   fan_is =
       let e : suc (k - 1) ≡ k = omega arith in
-      ap length (free_absent above n (get_or (sequences n s (k - 1)) parent []) shows) ∙ (children_count n s (k - 1) (get_or (sequences n s (k - 1)) parent []) is (get_d_in (sequences n s (k - 1)) parent [] lp) ∙ ap (λ j. n - j) e)
+      ap length (free_absent above n (get_or (sequences n s (k - 1)) parent []) shows) ∙ (children_count n s (k - 1) (get_or (sequences n s (k - 1)) parent []) is (get_or_in (sequences n s (k - 1)) parent [] lp) ∙ ap (λ j. n - j) e)
 
   -- the child that ends in x
   module _ (i x : ℕ) (lx : x < n) (out : holds above x ≡ false) (e : i ≡ parent * (n - k) + length (free above x)) where

@@ -8,7 +8,7 @@ use Rattle.std.proofs.lemmas.Nat.{div-add-mod', div_below, mod_below}
 use Rattle.std.proofs.lemmas.Bool.{cond_both, cases_lt, both_ways, not-true, lt-ltb, le-ltb}
 use Rattle.masks.specs.Lists.{In, units}
 use Rattle.masks.proofs.Counting.{num, count_cons, count_apart, count_all}
-use Rattle.masks.proofs.Members.{in_kept, get_d_in}
+use Rattle.masks.proofs.Members.{in_kept, get_or_in}
 use Rattle.sequences.specs.Sequences.{among, absent, sequences, place}
 use Rattle.sequences.proofs.Levels.{level_cons, level_root, level_length, level_distinct, absent_many}
 
@@ -18,15 +18,15 @@ module _ {X Y : Type 0} (f : X → List Y) (m : ℕ) where
   length_joined [] h = omega arith
   length_joined (x ∷ xs) h = omega (arith, length-append (f x) (flat_map f xs), h x (inl refl), length_joined xs (λ y i. h y (inr i)))
 
-  pub get_d_joined : (xs : List X) (i j : ℕ) (d : Y) (e : X) → ((x : X) → In x xs → length (f x) ≡ m) → i < length xs → j < m → get_or (flat_map f xs) (i * m + j) d ≡ get_or (f (get_or xs i e)) j d
-  get_d_joined [] i j d e h l k = absurd (omega arith)
-  get_d_joined (x ∷ xs) zero j d e h l k =
+  pub get_or_joined : (xs : List X) (i j : ℕ) (d : Y) (e : X) → ((x : X) → In x xs → length (f x) ≡ m) → i < length xs → j < m → get_or (flat_map f xs) (i * m + j) d ≡ get_or (f (get_or xs i e)) j d
+  get_or_joined [] i j d e h l k = absurd (omega arith)
+  get_or_joined (x ∷ xs) zero j d e h l k =
       let z : 0 * m + j ≡ j = omega arith in
       ap (λ y. get_or (f x ++ flat_map f xs) y d) z ∙ get_or_append_left (f x) (flat_map f xs) d j (omega (arith, h x (inl refl)))
-  get_d_joined (x ∷ xs) (suc i) j d e h l k =
+  get_or_joined (x ∷ xs) (suc i) j d e h l k =
       let z : (suc i * m + j) - m ≡ i * m + j = omega arith in
       get_or-append_right (f x) (flat_map f xs) m (suc i * m + j) d (h x (inl refl)) (omega arith)
-      ∙ (ap (λ y. get_or (flat_map f xs) y d) z ∙ get_d_joined xs i j d e (λ y k. h y (inr k)) (omega arith) k)
+      ∙ (ap (λ y. get_or (flat_map f xs) y d) z ∙ get_or_joined xs i j d e (λ y k. h y (inr k)) (omega arith) k)
 
 -- an element of a rising list stands behind those below it
 pub in_from : (a n w : ℕ) → In w (range_with_len a n) → a ≤ w
@@ -94,7 +94,7 @@ place_at n s (suc k) (w ∷ (u ∷ α)) is i =
     let piece = λ (γ : List ℕ). map (λ x. x ∷ γ) (absent n γ) in (
       omega (arith, at, rk.0, m, fans n s k is, mul-le-mul_right c ih.0),
       ap (λ x. get_or (sequences n s (suc k)) x []) at
-          ∙ (get_d_joined piece c (sequences n s k) (place n β) j [] [] (λ γ iγ. length-map (absent n γ) (λ x. x ∷ γ) ∙ children_count n s k γ is iγ) ih.0 (omega (arith, rk.0, m))
+          ∙ (get_or_joined piece c (sequences n s k) (place n β) j [] [] (λ γ iγ. length-map (absent n γ) (λ x. x ∷ γ) ∙ children_count n s k γ is iγ) ih.0 (omega (arith, rk.0, m))
           ∙ (ap (λ γ. get_or (piece γ) j []) ih.1 ∙ (get_or-map (λ x. x ∷ β) xs j 0 [] rk.0 ∙ ap (λ x. x ∷ β) rk.1))),
     )
 
@@ -114,7 +114,7 @@ rank_back q a (suc n) (suc r) l =
     let xs = filter q (range_with_len (a + 1) n) in
     cond_both (q a) (a ∷ xs) xs (λ ys. suc r < length ys → count_by (λ u. ltb u (get_or ys (suc r) 0)) ys ≡ suc r)
     (λ _ l. let w = get_or xs r 0 in
-    let lo = in_from (a + 1) n w (in_kept q (range_with_len (a + 1) n) w (get_d_in xs r 0 (omega arith))).0 in
+    let lo = in_from (a + 1) n w (in_kept q (range_with_len (a + 1) n) w (get_or_in xs r 0 (omega arith))).0 in
     omega (arith, count_cons (λ u. ltb u w) a xs, ap num (lt-ltb a w (omega arith)), rank_back q (a + 1) n r (omega arith)))
     (λ _ l. rank_back q (a + 1) n (suc r) l) l
 
@@ -134,13 +134,13 @@ module _ (n s : ℕ) (is : In s (units n)) where
       let pos : 0 < c = ⊎_elim (λ (p : 0 < c). p) (λ (z : c ≤ 0). let e : c ≡ 0 = omega arith in absurd (omega (arith, w, ap (λ x. length (sequences n s k) * x) e))) (cases_lt 0 c) in
       let lq : i / c < length (sequences n s k) = div_below i c (length (sequences n s k)) pos (omega (arith, w)) in
       let β = get_or (sequences n s k) (i / c) [] in
-      let m = children_count n s k β is (get_d_in (sequences n s k) (i / c) [] lq) in
+      let m = children_count n s k β is (get_or_in (sequences n s k) (i / c) [] lq) in
       let lr : i % c < length (absent n β) = omega (arith, m, mod_below i c pos) in
       let piece = λ (γ : List ℕ). map (λ x. x ∷ γ) (absent n γ) in (
         lq,
         lr,
         ap (λ x. get_or (sequences n s (suc k)) x []) (sym (div-add-mod' i c))
-            ∙ get_d_joined piece c (sequences n s k) (i / c) (i % c) [] [] (λ γ iγ. length-map (absent n γ) (λ x. x ∷ γ) ∙ children_count n s k γ is iγ) lq (omega (arith, m, lr))
+            ∙ get_or_joined piece c (sequences n s k) (i / c) (i % c) [] [] (λ γ iγ. length-map (absent n γ) (λ x. x ∷ γ) ∙ children_count n s k γ is iγ) lq (omega (arith, m, lr))
             ∙ get_or-map (λ x. x ∷ β) (absent n β) (i % c) 0 [] lr,
       )
 
@@ -154,6 +154,6 @@ module _ (n s : ℕ) (is : In s (units n)) where
       let β = get_or (sequences n s k) (i / c) [] in
       let xs = absent n β in
       let w = get_or xs (i % c) 0 in
-      let len = level_length n s k β (get_d_in (sequences n s k) (i / c) [] d.0) in
+      let len = level_length n s k β (get_or_in (sequences n s k) (i / c) [] d.0) in
       ap (place n) d.2 ∙ (place_cons n w β (omega (arith, len)) ∙ (ap₂ (λ (x y : ℕ). place n β * (n - x) + y) len (rank_back (λ x. not (among β x)) 0 n (i % c) d.1)
       ∙ (ap (λ x. x * c + i % c) (place_of k (i / c) d.0) ∙ div-add-mod' i c)))

@@ -20,9 +20,9 @@ entry rule high wide rows t i j li lj =
     let parts = and_parts (eqb (length rows) high) _ t in
     let rows_long = eqb-true (length rows) high parts.0 in
     let row = at (λ i row. eqb (length row) wide && each (rule i) 0 row) [] rows parts.1 i (omega arith) in
-    let row-parts = and_parts (eqb (length (get_or rows i [])) wide) _ row in
-    let row-long = eqb-true (length (get_or rows i [])) wide row-parts.0 in
-    at (rule i) 0 (get_or rows i []) row-parts.1 j (omega arith)
+    let row_parts = and_parts (eqb (length (get_or rows i [])) wide) _ row in
+    let row_long = eqb-true (length (get_or rows i [])) wide row_parts.0 in
+    at (rule i) 0 (get_or rows i []) row_parts.1 j (omega arith)
 
 pub width_entry : (rows : List (List ℕ)) → ruled is_width 18 4 rows ≡ true → (n k : ℕ) → 4 ≤ n → n ≤ 21 → 1 ≤ k → k ≤ 4
     → get_or (get_or rows (n - 4) []) (k - 1) 0 ≡ width n k

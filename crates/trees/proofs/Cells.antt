@@ -5,7 +5,7 @@ use Rattle.std.proofs.lemmas.List.{length-append, get_or_append_left, get_or-app
 use Rattle.std.proofs.lemmas.Nat.{div-mul-add, mod-mul-add}
 use Rattle.std.proofs.lemmas.Bool.{cases_lt, cases_order}
 use Rattle.masks.specs.Lists.{In, units}
-use Rattle.masks.proofs.Members.{get_d_in}
+use Rattle.masks.proofs.Members.{get_or_in}
 use Rattle.sequences.specs.Sequences.{sequences, place}
 use Rattle.sequences.specs.Sizes.{tree_size}
 use Rattle.sequences.proofs.Levels.{level_length}
@@ -55,7 +55,7 @@ module _ (n s : ℕ) (is : In s (units n)) where
     pub cell_at : (p k i : ℕ) → i < length (sequences n s k) → cell n h p (get_or (sequences n s k) i []) ≡ p * tree_size n h + (tree_size n k + i)
     cell_at p k i l =
         let α = get_or (sequences n s k) i [] in
-        let len = level_length n s k α (get_d_in (sequences n s k) i [] l) in
+        let len = level_length n s k α (get_or_in (sequences n s k) i [] l) in
         let e : length α - 1 ≡ k = omega arith in
         ap₂ (λ (x y : ℕ). p * tree_size n h + (tree_size n x + y)) e (place_of n s is k i l)
 

@@ -7,10 +7,10 @@ use Rattle.std.proofs.lemmas.List.FromFn.{length-range_with_len, get_or-range_wi
 use Rattle.std.proofs.lemmas.Nat.{div-add-mod', div_below, mod_below}
 use Rattle.std.proofs.lemmas.Bool.{cases_lt, cases_eq}
 use Rattle.masks.specs.Lists.{In, units}
-use Rattle.masks.proofs.Members.{get_d_in}
+use Rattle.masks.proofs.Members.{get_or_in}
 use Rattle.sequences.specs.Sequences.{sequences, place}
 use Rattle.sequences.specs.Sizes.{tree_size}
-use Rattle.sequences.proofs.Index.{length_joined, get_d_joined, place_at}
+use Rattle.sequences.proofs.Index.{length_joined, get_or_joined, place_at}
 use Rattle.trees.specs.Layouts.{Trees, order, cell, at, planted}
 use Rattle.trees.proofs.Cells.{Each, length_order, order_at, split, in_tree, cell_at, cell_of, cell_below, cell_apart}
 
@@ -35,7 +35,7 @@ module _ (n s : ℕ) (is : In s (units n)) (h : ℕ) {V : Type 0} (m : ℕ) wher
       let lj : j < T = in_tree n s is h k i lk li in
       let piece = λ (q : ℕ). map (f q) (order n s h) in
       get_or_append_left (values f) (drop (m * T) old) d (p * T + j) (omega (arith, length_values f, digits_lt lp lj))
-      ∙ (get_d_joined piece T (units m) p j d 0 (λ q _. length_tree f q) (omega (arith, length-range_with_len 0 m)) lj
+      ∙ (get_or_joined piece T (units m) p j d 0 (λ q _. length_tree f q) (omega (arith, length-range_with_len 0 m)) lj
       ∙ (ap (λ q. get_or (piece q) j d) (get_or-range_with_len 0 m p 0 lp ∙ zero-add p)
       ∙ (get_or-map (f p) (order n s h) j [] d (omega (arith, length_order n s is h)) ∙ ap (f p) (order_at n s is h k i lk li))))
 
@@ -70,7 +70,7 @@ module _ (n s : ℕ) (is : In s (units n)) (h : ℕ) {V : Type 0} (m : ℕ) wher
           let i = sp.1 in
           let e : p * T + (tree_size n k + i) ≡ j = ap (λ x. p * T + x) sp.4 ∙ div-add-mod' j T in
           let α = get_or (sequences n s k) i [] in
-          let ia = get_d_in (sequences n s k) i [] sp.3 in
+          let ia = get_or_in (sequences n s k) i [] sp.3 in
           subst (λ x. get_or xs x d ≡ get_or (planted m n s h f old) x d) e
           (ap (λ x. get_or xs x d) (sym (cell_at n s is h p k i sp.3)) ∙ (holds p k α lp sp.2 ia ∙ sym (laid_entry f old d p k i lp sp.2 sp.3)))
 

@@ -21,8 +21,8 @@ overflow_add-result c = omega (arith, few c.args.self c.args.level c.args.place 
 
 pub returns : goal.returns
 returns c =
-    let is-there = sym c.if-not-has_place.ensures in
+    let is_there = sym c.if-not-has_place.ensures in
     record {
-      value = child c.args.self c.args.level c.args.place c.args.j c.units_at-units.result c.nth_absent.result is-there (omega arith) (omega arith) c.units_at-units.ensures c.nth_absent.ensures;
-      stands = child_stands c.args.self c.args.level c.args.place c.args.j c.units_at-units.result c.nth_absent.result is-there (omega arith) (omega arith) c.units_at-units.ensures c.nth_absent.ensures;
+      value = child c.args.self c.args.level c.args.place c.args.j c.units_at-units.result c.nth_absent.result is_there (omega arith) (omega arith) c.units_at-units.ensures c.nth_absent.ensures;
+      stands = child_stands c.args.self c.args.level c.args.place c.args.j c.units_at-units.result c.nth_absent.result is_there (omega arith) (omega arith) c.units_at-units.ensures c.nth_absent.ensures;
     }

@@ -51,7 +51,7 @@ loop-i-preserved c =
 
 pub returns : goal.returns
 returns c =
-    let is-begun = sym c.if-not-begins.ensures in
-    let parts = begun_parts c.args.self c.args.units.now is-begun in
-    let all = all_places c.args.self c.args.units.now c.loop-i.i c.loop-i.place (omega (arith, c.loop-i.auto.i-end parts.0)) is-begun c.loop-i.invariant.0 c.loop-i.invariant.2 in
+    let is_begun = sym c.if-not-begins.ensures in
+    let parts = begun_parts c.args.self c.args.units.now is_begun in
+    let all = all_places c.args.self c.args.units.now c.loop-i.i c.loop-i.place (omega (arith, c.loop-i.auto.i-end parts.0)) is_begun c.loop-i.invariant.0 c.loop-i.invariant.2 in
     record { value = all.0; back = all.1; bound = all.2 }

@@ -11,8 +11,8 @@ sequence_at-requires c =
 
 pub returns : goal.returns
 returns c =
-    let is-there = sym c.if-not-has_place.ensures in
+    let is_there = sym c.if-not-has_place.ensures in
     record {
-      value = ap Ok c.sequence_at.ensures.units ∙ sym (cond-true (has_place c.args.self c.args.level c.args.place) _ _ is-there);
-      back = found_back c.args.self c.args.level c.args.place _ is-there c.sequence_at.ensures.units;
+      value = ap Ok c.sequence_at.ensures.units ∙ sym (cond-true (has_place c.args.self c.args.level c.args.place) _ _ is_there);
+      back = found_back c.args.self c.args.level c.args.place _ is_there c.sequence_at.ensures.units;
     }
