@@ -5,3 +5,4 @@ pub mod Triggers
 pub mod RightCodes
 pub mod RangeFacts
 pub mod TriggerCodes
+pub mod Texts

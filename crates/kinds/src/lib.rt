@@ -11,6 +11,7 @@ pub use right::{Minutes, Right};
 pub use trigger::{Slope, Trigger};
 
 /// A kind of value that the units of a rack can agree on.
+// `same` says for every kind when two values are equal: by their codes. So no implementer owes an `Eq` that agrees with it.
 pub trait Kind: Copy {
     ghost model: { KindModel Self };
 

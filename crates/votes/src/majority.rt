@@ -14,6 +14,7 @@ impl<K: Kind> Vote<K> for Majority {
 
     ghost first = { λ v. majority_first K.Kind.model K.Kind.lawful };
 
+    #[tactic(auto, using(crate::specs::VoteLaws::most_first))]
     fn vote(&self, entries: &[Option<K>], t: u32) -> Option<K> {
         let most = first_with(entries, entries.len() / 2 + 1);
         Some(most.unwrap_or(K::ground()))

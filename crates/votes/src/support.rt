@@ -11,23 +11,14 @@ use kinds::Kind;
 fn is_for<K: Kind>(e: &Option<K>, x: &K) -> bool
     ensures { result ≡ supports K.Kind.model x.now e.now }
 {
-    match e {
-        Some(y) => y.same(x),
-        None => false,
-    }
+    e.is_some_and(|y| y.same(x))
 }
 
 /// How many of the entries support `x`.
 pub fn support_of<K: Kind>(entries: &[Option<K>], x: &K) -> usize
     ensures { result ≡ support K.Kind.model x.now entries.now }
 {
-    let mut count = 0;
-    for e in entries {
-        if is_for(e, x) {
-            count += 1;
-        }
-    }
-    count
+    entries.iter().filter(|e| is_for(e, x)).count()
 }
 
 // Whether at least `least` entries support `x`.
@@ -41,26 +32,19 @@ fn has_enough<K: Kind>(entries: &[Option<K>], least: usize, x: &K) -> bool
 pub(crate) fn first_with<K: Kind>(entries: &[Option<K>], least: usize) -> Option<K>
     ensures { result ≡ slice_get (filter (enough K.Kind.model entries.now least) (values entries.now)) 0 }
 {
-    for e in entries {
-        if let Some(x) = e {
-            if has_enough(entries, least, x) {
-                return Some(*x);
-            }
-        }
-    }
-    None
+    entries
+        .iter()
+        .flatten()
+        .find(|x| has_enough(entries, least, x))
+        .copied()
 }
 
 // Whether every value that has at least `least` entries is `x`.
 pub(crate) fn is_only<K: Kind>(entries: &[Option<K>], least: usize, x: &K) -> bool
     ensures { result ≡ every (same_value K.Kind.model x.now) (filter (enough K.Kind.model entries.now least) (values entries.now)) }
 {
-    for e in entries {
-        if let Some(y) = e {
-            if !x.same(y) && has_enough(entries, least, y) {
-                return false;
-            }
-        }
-    }
-    true
+    entries
+        .iter()
+        .flatten()
+        .all(|y| x.same(y) || !has_enough(entries, least, y))
 }

@@ -16,11 +16,6 @@ impl<K: Kind> Vote<K> for Threshold {
 
     fn vote(&self, entries: &[Option<K>], t: u32) -> Option<K> {
         let least = t as usize + 1;
-        let x = first_with(entries, least)?;
-        if is_only(entries, least, &x) {
-            Some(x)
-        } else {
-            None
-        }
+        first_with(entries, least).filter(|x| is_only(entries, least, x))
     }
 }

@@ -34,10 +34,7 @@ impl Kind for Right {
         match code {
             0 => Some(Right::Withdrawn),
             1 => Some(Right::Watch),
-            _ => match Minutes::new(code - 1) {
-                Some(m) => Some(Right::Operate(m)),
-                None => None,
-            },
+            _ => Minutes::new(code - 1).map(Right::Operate),
         }
     }
 

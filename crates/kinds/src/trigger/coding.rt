@@ -1,20 +1,12 @@
 ghost use Rattle.std.specs.Prelude.{◌≡◌};
-ghost use Rattle.kinds.specs.Triggers.{slope_code, slope_of, trigger_from, trigger_model};
+ghost use Rattle.kinds.specs.Triggers.{slope_of, trigger_from, trigger_model};
 ghost use Rattle.kinds.specs.TriggerCodes.{trigger_lawful};
 
 use crate::Kind;
 use crate::trigger::{Slope, Trigger};
 
 impl Slope {
-    fn code(&self) -> u32
-        ensures { result ≡ slope_code self.now }
-    {
-        match self {
-            Slope::Rising => 0,
-            Slope::Falling => 1,
-        }
-    }
-
+    // Every number has a slope here, so that `TryFrom` would add a refusal that cannot come.
     fn of(bit: u32) -> Slope
         ensures { result ≡ slope_of bit }
     {
@@ -49,7 +41,7 @@ impl Kind for Trigger {
 
     fn code(&self) -> u32 {
         let above = (i32::from(self.level) + 2048) as u32;
-        (u32::from(self.channel - 1) * 2 + self.slope.code()) * 4096 + above
+        (u32::from(self.channel - 1) * 2 + self.slope as u32) * 4096 + above
     }
 
     fn read(code: u32) -> Option<Trigger> {

@@ -1,21 +1,16 @@
-use Rattle.std.proofs.Common.{sym, ap, ◌∙◌, rules}
-use Rattle.std.specs.List.{slice_get}
+use Rattle.std.proofs.Common.{◌∙◌, rules, tests}
+use Rattle.std.specs.Option.{option_to_list}
+use Rattle.std.proofs.lemmas.Iterator.{YieldsList-from_slice}
+use Rattle.std.proofs.lemmas.Iterator.Adapters.{YieldsList-from_flatten}
+use Rattle.std.proofs.lemmas.Iterator.Search.{find_from_yields_List}
 use Rattle.votes.specs.Meanings.{enough}
-use Rattle.votes.proofs.Kept.{kept_end, kept_open, kept_fails, kept_passes}
+use Rattle.votes.proofs.Values.{entry_gives, first_value}
 use Rattle.votes.proofs.support.first_with.Goals as goal
 
-pub returns-then-has_enough : goal.returns-then-has_enough
-returns-then-has_enough g c =
-    let p = enough g.K.Kind.model c.args.entries.now c.args.least in
-    sym (ap (λ xs. slice_get xs 0) (c.loop-e.invariant ∙ kept_passes p _ c.loop-e.e-index c.loop-e-test.true _ c.e-item.is _ c.in-Some.is c.if-has_enough.ensures))
-
-pub loop-e-preserved : goal.loop-e-preserved
-loop-e-preserved g c =
-    let p = enough g.K.Kind.model c.args.entries.now c.args.least in
-    elim c.match-e.branch [
-      | goal.in-Some+else-has_enough w ↦ c.loop-e.invariant ∙ kept_fails p _ c.loop-e.e-index c.loop-e-test.true _ c.e-item.is _ w.in-Some.is w.if-has_enough.ensures
-      | goal.in_default w ↦ c.loop-e.invariant ∙ kept_open p _ c.loop-e.e-index c.loop-e-test.true _ c.e-item.is w.in_default.is
-    ]
-
 pub returns : goal.returns
-returns g c = search (rules, kept_end)
+returns g c =
+    let p = enough g.K.Kind.model c.args.entries.now c.args.least in
+    let f = find_from_yields_List p _ _ c.find.result c.find.ensures.ran
+    (YieldsList-from_flatten _ _ (λ y. y.now) option_to_list (λ x j b. entry_gives j x.now b.0 b.1) (YieldsList-from_slice c.args.entries.now cc) c.flatten.ensures.front c.flatten.ensures.back c.flatten.ensures.done)
+    (λ x b q k. search (rules, tests)) in
+    c.copied.ensures ∙ f ∙ first_value p c.args.entries.now
