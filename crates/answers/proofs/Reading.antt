@@ -1,6 +1,10 @@
 -- Reading codes as entries, one after another.
 use Rattle.std.proofs.Common.{◌≡◌, ℕ, ◌+◌, ◌<◌, ◌≤◌, List, [], ◌∷◌, ◌++◌, length, get_or, drop, Ok, Err, Option, Result, sym, refl, ap, ◌∙◌, append_assoc, append-nil}
+use Rattle.std.proofs.Common.{arith}
 use Rattle.std.proofs.lemmas.List.{at_drop_more, at_drop_all}
+use Rattle.std.specs.Result.{MatchResult}
+use Rattle.answers.specs.declared.forms.Unvoted.{Unvoted}
+use Rattle.answers.specs.declared.forms.Unvoted.TheVariants.{NoValue}
 use Rattle.kinds.specs.Models.{KindModel}
 use Rattle.answers.specs.Ballots.{entry_of, in_front, entries_of}
 
@@ -26,3 +30,13 @@ module _ {K : Type 0} (m : KindModel K) (codes : List (Option ℕ)) (i : ℕ) (d
 
 pub read_all : {K : Type 0} (m : KindModel K) (codes : List (Option ℕ)) (i : ℕ) → length codes ≤ i → (es : List (Option K)) → Ok es ≡ before es (entries_of m (drop i codes))
 read_all m codes i past es = sym (ap (before es) (at_drop_all (entries_of m) codes i past) ∙ ap Ok (append-nil es))
+
+-- what is passed on of a code that has no value
+pub told : {X : Type 0} (r : Result X ℕ) (u : Unvoted) → MatchResult r (λ x. ◌≡◌ {A = Result X Unvoted} (Err u) (Ok x)) (λ c. u ≡ NoValue c) → (c : ℕ) × (Err c ≡ r) × (u ≡ NoValue c)
+told (Ok x) u e = let z : ◌≡◌ {A = ℕ} 0 1 = cc in absurd (omega arith)
+told (Err c) u e = (c, refl, e)
+
+-- what is read is what was to be read
+pub kept : {X : Type 0} (r : Result X ℕ) (e : X) → MatchResult r (λ x. ◌≡◌ {A = Result X Unvoted} (Ok e) (Ok x)) (λ c. ⊥) → Ok e ≡ r
+kept (Ok x) e is = cc
+kept (Err c) e is = absurd is

@@ -54,4 +54,4 @@ vote_reply kind.Trigger v t codes = poll_reply kind.Trigger value.Trigger (polle
 abbrev pub Yields : {A B : Type 0} → (A → B) → Result A Unvoted → Result B ℕ → Type 0
 Yields view (Ok a) wanted = Ok (view a) ≡ wanted
 Yields view (Err (NoValue c)) wanted = Err c ≡ wanted
-Yields view (Err NoMemory) wanted = Unit {0}
+Yields view (Err (NoMemory _)) wanted = Unit {0}

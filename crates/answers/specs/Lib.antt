@@ -6,3 +6,4 @@ pub mod Letters
 pub mod Ballots
 pub mod Questions
 pub mod Tallies
+pub mod Texts

@@ -5,7 +5,7 @@ use Rattle.lines.specs.States.{ScriptState}
 use Rattle.sheets.specs.Asked.{Asked}
 use Rattle.fields.specs.declared.forms.Misread.{Misread}
 use Rattle.answers.specs.Ballots.{vote_reply}
-use Rattle.answers.specs.Letters.{record_of, letter_reply, arrives_reply}
+use Rattle.answers.specs.Letters.{letter_reply, arrives_reply}
 use Rattle.answers.specs.Racks.{place_reply, sequence_reply, plan_reply}
 use Rattle.answers.specs.Replies.{Reply}
 use Rattle.answers.specs.Values.{code_reply, right_reply, trigger_reply}
@@ -19,7 +19,7 @@ reply_to (Asked.sequence n source level place) s = sequence_reply n source level
 reply_to (Asked.plan n t gear source) s = plan_reply n t gear source
 reply_to (Asked.vote k v t entries) s = vote_reply k v t entries
 reply_to (Asked.add_letter l) s = letter_reply s l
-reply_to (Asked.arrives l) s = arrives_reply s l
+reply_to (Asked.arrives way code) s = arrives_reply s way code
 
 -- only the adding of a record changes the script
 abbrev pub script_after : Asked → ScriptState → ScriptState
@@ -30,8 +30,8 @@ script_after (Asked.place n source units) s = s
 script_after (Asked.sequence n source level place) s = s
 script_after (Asked.plan n t gear source) s = s
 script_after (Asked.vote k v t entries) s = s
-script_after (Asked.add_letter l) s = after_add s (record_of l)
-script_after (Asked.arrives l) s = s
+script_after (Asked.add_letter l) s = after_add s l
+script_after (Asked.arrives way code) s = s
 
 -- a line without words has no reply, and one that is not understood says so
 abbrev pub response_to : Result (Option Asked) Misread → ScriptState → Option Reply

@@ -1,14 +1,13 @@
 -- What became of a line, with a list where the program has a sequence, and numbers where it has a plan.
 use Rattle.std.specs.Prelude.{ℕ, List, Ok, Err, Option, Result}
-use Rattle.places.specs.Answers.{units_of}
 use Rattle.plans.specs.Answers.{plan_parts}
 use Rattle.fields.specs.declared.forms.KindName.{KindName}
 use Rattle.fields.specs.declared.forms.Misread.{Misread}
 use Rattle.answers.specs.declared.forms.Answer.{Answer}
 use Rattle.answers.specs.declared.forms.Answer.TheVariants.{Found, NoValue, Code, NoSuch, Place, Sequence, Plan, Vote, Added, Arrives}
-use Rattle.answers.specs.declared.forms.Outcome.{Outcome}
-use Rattle.answers.specs.declared.forms.Outcome.TheVariants.{Answered, Refused, NotUnderstood}
 use Rattle.answers.specs.declared.forms.Refusal.{Refusal}
+use Rattle.answers.specs.declared.forms.Unanswered.{Unanswered}
+use Rattle.answers.specs.declared.forms.Unanswered.TheVariants.{Refused, NotUnderstood}
 use Rattle.answers.specs.declared.forms.Value.{Value}
 
 pub data Reply : Type 0 where
@@ -32,16 +31,17 @@ replied (NoValue k c) = no_value k c
 replied (Code c) = code c
 replied (NoSuch k) = no_such k
 replied (Place k i) = place k i
-replied (Sequence s b) = sequence (units_of s) b
+replied (Sequence s b) = sequence s b
 replied (Plan p) = plan (plan_parts p)
 replied (Vote v) = vote v
 replied (Added u c m) = added u c m
 replied (Arrives c) = arrives c
 
-abbrev pub shown : Outcome → Reply
-shown (Answered a) = replied a
-shown (Refused r) = refused r
-shown (NotUnderstood m) = not_understood m
+-- what became of a line: an answer, or why there is none
+abbrev pub shown : Result Answer Unanswered → Reply
+shown (Ok a) = replied a
+shown (Err (Refused r)) = refused r
+shown (Err (NotUnderstood m)) = not_understood m
 
 -- the same of an answer that may be refused
 abbrev pub settled : Result Answer Refusal → Reply

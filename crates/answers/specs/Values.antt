@@ -4,15 +4,12 @@ use Rattle.std.specs.Option.{option_map}
 use Rattle.kinds.specs.declared.right.Right.{Right}
 use Rattle.kinds.specs.declared.right.Right.TheVariants.{Withdrawn, Watch, Operate}
 use Rattle.kinds.specs.declared.trigger.Slope.{Slope}
-use Rattle.kinds.specs.declared.trigger.Slope.TheVariants.{Rising, Falling}
 use Rattle.kinds.specs.Rights.{minutes_of, right_of, right_code}
 use Rattle.kinds.specs.Triggers.{trigger_from, trigger_of, trigger_code}
 use Rattle.fields.specs.declared.forms.KindName.{KindName}
 use Rattle.fields.specs.declared.forms.KindName.TheVariants as kind
 use Rattle.sheets.specs.declared.forms.RightName.{RightName}
 use Rattle.sheets.specs.declared.forms.RightName.TheVariants as name
-use Rattle.fields.specs.declared.forms.SlopeName.{SlopeName}
-use Rattle.fields.specs.declared.forms.SlopeName.TheVariants as slope
 use Rattle.answers.specs.declared.forms.Value.{Value}
 use Rattle.answers.specs.declared.forms.Value.TheVariants as value
 use Rattle.answers.specs.Replies.{Reply}
@@ -32,10 +29,6 @@ right_named name.Withdrawn = Some Withdrawn
 right_named name.Watch = Some Watch
 right_named (name.Operate m) = option_map Operate (minutes_of m)
 
-abbrev pub slope_named : SlopeName → Slope
-slope_named slope.Rising = Rising
-slope_named slope.Falling = Falling
-
 -- the code of a value, if there is such a value
 abbrev pub code_or : KindName → Option ℕ → Reply
 code_or k (Some c) = Reply.code c
@@ -44,5 +37,5 @@ code_or k None = Reply.no_such k
 abbrev pub right_reply : RightName → Reply
 right_reply r = code_or kind.Right (option_map right_code (right_named r))
 
-abbrev pub trigger_reply : ℕ → SlopeName → ℤ → Reply
-trigger_reply channel s level = code_or kind.Trigger (option_map trigger_code (trigger_from channel (slope_named s) level))
+abbrev pub trigger_reply : ℕ → Slope → ℤ → Reply
+trigger_reply channel s level = code_or kind.Trigger (option_map trigger_code (trigger_from channel s level))

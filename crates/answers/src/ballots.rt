@@ -13,13 +13,7 @@ use votes::{Majority, Threshold, Vote};
 fn entry_of<K: Kind>(code: Option<u32>) -> Result<Option<K>, u32>
     ensures { result ≡ entry_of K.Kind.model code }
 {
-    let Some(c) = code else {
-        return Ok(None);
-    };
-    match K::read(c) {
-        Some(value) => Ok(Some(value)),
-        None => Err(c),
-    }
+    code.map(|c| K::read(c).ok_or(c)).transpose()
 }
 
 // The entries that codes stand for.
@@ -28,15 +22,13 @@ fn entries_of<K: Kind>(heap: Global, codes: &[Option<u32>]) -> Result<Vec<Option
 {
     let mut entries = Vec::new(heap);
     for code in codes {
-        match entry_of::<K>(*code) {
-            Ok(entry) => entries.push(entry)?,
-            Err(c) => return Err(Unvoted::NoValue(c)),
-        }
+        let entry = entry_of::<K>(*code).map_err(Unvoted::NoValue)?;
+        entries.push(entry)?;
     }
     Ok(entries)
 }
 
-// What the vote with this name answers.
+// What the vote with this name answers. A `&dyn Vote<K>` that is picked by the name would need the same `match`.
 fn vote_named<K: Kind>(name: VoteName, entries: &[Option<K>], t: u32) -> Option<K>
     ensures { result ≡ vote_named name K.Kind.model entries.now t }
 {
@@ -46,7 +38,8 @@ fn vote_named<K: Kind>(name: VoteName, entries: &[Option<K>], t: u32) -> Option<
     }
 }
 
-// What the vote answers on these codes.
+// What the vote answers on these codes. The vote, t and the codes go through three functions to one vote:
+// a struct for them would be made and taken apart once.
 fn poll<K: Kind>(
     heap: Global,
     name: VoteName,
@@ -70,14 +63,13 @@ fn poll_answer<K: Shown>(
     ensures { IfOk result (λ a. replied a ≡ poll_reply kind K.Shown.as_value (polled K.Kind.model name t codes.now)) }
 {
     match poll::<K>(heap, name, t, codes) {
-        Ok(Some(value)) => Ok(Answer::Vote(Some(value.value()))),
-        Ok(None) => Ok(Answer::Vote(None)),
+        Ok(voted) => Ok(Answer::Vote(voted.map(|value| value.value()))),
         Err(Unvoted::NoValue(code)) => Ok(Answer::NoValue { kind, code }),
-        Err(Unvoted::NoMemory) => Err(AllocError),
+        Err(Unvoted::NoMemory(error)) => Err(error),
     }
 }
 
-// The answer of a vote on codes.
+// The answer of a vote on codes. The kind is known only when the program runs, so that the type is picked here.
 pub(crate) fn vote_answer(
     heap: Global,
     kind: KindName,

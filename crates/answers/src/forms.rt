@@ -1,5 +1,5 @@
 //! What a question is answered.
-ghost use Rattle.std.specs.Prelude.{◌≡◌};
+ghost use Rattle.std.specs.Prelude.{◌≡◌, alloc_error};
 ghost use Rattle.answers.specs.declared.forms.Value.{Value};
 ghost use Rattle.answers.specs.declared.forms.Refusal.TheVariants.{Place, Plan, Script};
 ghost use Rattle.answers.specs.declared.forms.Unvoted.TheVariants.{NoMemory};
@@ -12,7 +12,7 @@ use places::fault::PlaceFault;
 use places::sequence::Sequence;
 use plans::fault::PlanFault;
 use plans::plan::Plan;
-use std::alloc::AllocFailed;
+use std::alloc::{AllocError, AllocFailed};
 
 /// A value of one of the kinds.
 #[derive(Clone, Copy)]
@@ -22,6 +22,7 @@ pub enum Value {
 }
 
 /// A kind whose values are shown.
+// No `From`: it promises a relation, and the replies need the function that is given here.
 pub trait Shown: Kind {
     ghost as_value: { Self → Value };
 
@@ -85,7 +86,7 @@ pub enum Answer {
 }
 
 /// Why a question is refused.
-#[derive(Clone, Copy)]
+#[derive(Clone, Copy, PartialEq, Eq, Debug)]
 pub enum Refusal {
     Place(PlaceFault),
     Plan(PlanFault),
@@ -94,6 +95,7 @@ pub enum Refusal {
 
 impl Refusal {
     /// The number of the refusal.
+    // A case that holds a value has no cast to a number.
     pub fn number(&self) -> u32
         ensures { result ≡ refusal_number self.now }
     {
@@ -106,29 +108,37 @@ impl Refusal {
 }
 
 /// Why typed codes could not be voted on.
+// An enum of this crate, as `Unread` is of `sheets`: one generic enum would call a flaw and a code by one name.
 #[derive(Clone, Copy)]
 pub enum Unvoted {
     /// No value has this code.
     NoValue(u32),
-    NoMemory,
+    /// There was no memory for the entries.
+    NoMemory(AllocError),
 }
 
+// By hand: a derived `From` does not promise which case it gives.
 impl<T: Drop> From<AllocFailed<T>> for Unvoted {
-    ghost from_gives = { λ _ r. r ≡ NoMemory };
+    ghost from_gives = { λ _ r. r ≡ NoMemory alloc_error };
 
-    fn from(_error: AllocFailed<T>) -> Unvoted {
-        Unvoted::NoMemory
+    fn from(failed: AllocFailed<T>) -> Unvoted {
+        Unvoted::NoMemory(failed.into())
     }
 }
 
-/// What became of a line.
-#[derive(Clone, Copy)]
-pub enum Outcome {
-    Answered(Answer),
+/// Why a line has no answer.
+#[derive(Clone, Copy, PartialEq, Eq, Debug)]
+pub enum Unanswered {
+    /// The question is refused.
     Refused(Refusal),
+    /// The line is no question.
     NotUnderstood(Misread),
 }
 
+/// What became of a line.
+pub type Outcome = Result<Answer, Unanswered>;
+
+// Each `From` is written by hand, since a derived one does not promise which case it gives, and the replies name the case.
 impl From<PlaceFault> for Refusal {
     ghost from_gives = { λ f r. r ≡ Place f };
 

@@ -6,10 +6,10 @@ use Rattle.fields.specs.declared.forms.KindName.{KindName}
 use Rattle.fields.specs.declared.forms.KindName.TheVariants.{Right, Trigger}
 use Rattle.fields.specs.declared.forms.Misread.{Misread}
 use Rattle.fields.specs.declared.forms.Misread.TheVariants.{UnknownWord}
-use Rattle.fields.specs.declared.forms.SlopeName.{SlopeName}
-use Rattle.fields.specs.declared.forms.SlopeName.TheVariants.{Rising, Falling}
 use Rattle.fields.specs.declared.forms.VoteName.{VoteName}
 use Rattle.fields.specs.declared.forms.VoteName.TheVariants.{Majority, Threshold}
+use Rattle.kinds.specs.declared.trigger.Slope.{Slope}
+use Rattle.kinds.specs.declared.trigger.Slope.TheVariants.{Rising, Falling}
 use Rattle.words.specs.Words.{Word}
 
 -- whether the word is the text
@@ -17,7 +17,7 @@ abbrev pub says : Word → String → Bool
 says w text = bytes_eq w (codes text)
 
 -- one of two names
-unfoldable pub either : {A : Type 0} → Word → A → Word → A → ℕ → Word → Result A Misread
+abbrev pub either : {A : Type 0} → Word → A → Word → A → ℕ → Word → Result A Misread
 either first x second y i w =
     cond (bytes_eq w first) (Ok x)
     (cond (bytes_eq w second) (Ok y)
@@ -26,7 +26,7 @@ either first x second y i w =
 abbrev pub kind : ℕ → Word → Result KindName Misread
 kind = either (codes "right") Right (codes "trigger") Trigger
 
-abbrev pub slope : ℕ → Word → Result SlopeName Misread
+abbrev pub slope : ℕ → Word → Result Slope Misread
 slope = either (codes "rising") Rising (codes "falling") Falling
 
 abbrev pub vote : ℕ → Word → Result VoteName Misread

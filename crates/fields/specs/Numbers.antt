@@ -1,8 +1,10 @@
 -- A word as a number, or what is wrong with it. i is the number of the word in its line.
-use Rattle.std.specs.Prelude.{ℕ, ◌+◌, ◌-◌, ◌*◌, Bool, cond, not, ◌&&◌, length, drop, ℤ, pos, neg_ℤ, Ok, Err, fold, Result, ◌==◌, nat_le, nat_lt, slice_index}
+use Rattle.std.specs.Prelude.{ℕ, ◌+◌, ◌-◌, ◌*◌, Bool, cond, not, ◌&&◌, length, drop, ℤ, pos, neg_ℤ, Some, None, Ok, Err, fold, Option, Result, ◌==◌, nat_le, nat_lt, slice_index}
 use Rattle.fields.specs.declared.forms.Misread.{Misread}
 use Rattle.fields.specs.declared.forms.Misread.TheVariants.{NotNumber, Negative, TooLarge}
 use Rattle.masks.specs.Lists.{every}
+use Rattle.fields.specs.Names.{says}
+use Rattle.fields.specs.Steps.{and_then}
 use Rattle.words.specs.Words.{Word}
 
 -- the digits `0` to `9` are the bytes 48 to 57
@@ -38,3 +40,7 @@ level i w =
     (cond (not (digits w)) (Err (NotNumber i))
     (cond (nat_lt 2147483647 (value w)) (Err (TooLarge i))
     (Ok (pos (value w)))))
+
+-- an entry of a vote is a code, or `-` for an open one
+abbrev pub entry : ℕ → Word → Result (Option ℕ) Misread
+entry i w = cond (says w "-") (Ok None) (and_then (number i w) λ c. Ok (Some c))

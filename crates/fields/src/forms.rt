@@ -1,30 +1,38 @@
 //! The names that words can be, and what can be wrong with a line.
-ghost use Rattle.std.specs.Prelude.{◌≡◌};
+ghost use Rattle.std.specs.Prelude.{◌≡◌, Some};
 ghost use Rattle.fields.specs.Flaws.{misread_number, misread_word};
+ghost use Rattle.fields.specs.Texts.{kind_text, misread_text};
+
+use std::error::Error;
+use std::fmt;
 
 /// A kind of value.
-#[derive(Clone, Copy)]
+#[derive(Clone, Copy, Debug, PartialEq, Eq)]
 pub enum KindName {
     Right,
     Trigger,
 }
 
-/// The slope of a trigger.
-#[derive(Clone, Copy)]
-pub enum SlopeName {
-    Rising,
-    Falling,
+impl fmt::Display for KindName {
+    ghost output = { λ kind. Some (kind_text kind) };
+
+    fn fmt<W: fmt::Write>(&self, f: &mut fmt::Formatter<W>) -> fmt::Result {
+        f.write_str(match self {
+            KindName::Right => "right",
+            KindName::Trigger => "trigger",
+        })
+    }
 }
 
 /// A vote.
-#[derive(Clone, Copy)]
+#[derive(Clone, Copy, Debug, PartialEq, Eq)]
 pub enum VoteName {
     Majority,
     Threshold,
 }
 
 /// Why a line is not understood. A number is that of the word in the line; the first word has number 1.
-#[derive(Clone, Copy)]
+#[derive(Clone, Copy, Debug, PartialEq, Eq)]
 pub enum Misread {
     /// The first word names no question.
     UnknownQuestion,
@@ -44,6 +52,7 @@ pub enum Misread {
 
 impl Misread {
     /// The number of the case, from 1 for an unknown question to 7 for a number out of range.
+    // A `match`, since an enum whose cases hold values has no cast to a number.
     pub fn number(self) -> u32
         ensures { result ≡ misread_number self }
     {
@@ -71,3 +80,24 @@ impl Misread {
         }
     }
 }
+
+// By hand: a derived `Display` would promise no text.
+impl fmt::Display for Misread {
+    ghost output = { λ misread. Some (misread_text misread) };
+
+    fn fmt<W: fmt::Write>(&self, f: &mut fmt::Formatter<W>) -> fmt::Result {
+        match self {
+            Misread::UnknownQuestion => write!(f, "no such question"),
+            Misread::TooFew => write!(f, "words are missing"),
+            Misread::TooMany => write!(f, "too many words"),
+            Misread::UnknownWord(i) => {
+                write!(f, "word {i} is not one of the names that may stand there")
+            }
+            Misread::NotNumber(i) => write!(f, "word {i} is not a number"),
+            Misread::Negative(i) => write!(f, "word {i} is negative"),
+            Misread::TooLarge(i) => write!(f, "word {i} is out of range"),
+        }
+    }
+}
+
+impl Error for Misread {}

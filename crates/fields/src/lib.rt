@@ -6,7 +6,5 @@ mod names;
 mod numbers;
 mod picking;
 
-pub use forms::{KindName, Misread, SlopeName, VoteName};
-pub use names::{read_kind, read_slope, read_vote};
-pub use numbers::{read_level, read_number};
-pub use picking::{at_least, exactly, is, word};
+pub use forms::{KindName, Misread, VoteName};
+pub use picking::{Field, NumberedWord, at_least, exactly, read, word};

@@ -1,75 +1,52 @@
-//! A word read as a name.
-ghost use Rattle.std.specs.Prelude.{◌≡◌};
-ghost use Rattle.fields.specs.Names.{either, kind, slope, vote};
-ghost use Rattle.fields.specs.Steps.{Present, at};
-ghost use Rattle.words.specs.Words.{texts};
+//! Words read as names.
+ghost use Rattle.std.specs.Prelude.{◌≡◌, Err};
+ghost use Rattle.fields.specs.declared.forms.Misread.TheVariants.{UnknownWord};
+ghost use Rattle.fields.specs.Names.{kind, slope, vote};
 
-use crate::forms::{KindName, Misread, SlopeName, VoteName};
-use crate::picking::{is, word};
+use crate::forms::{KindName, Misread, VoteName};
+use crate::picking::{Field, NumberedWord};
+use kinds::Slope;
 
-/// Word `i` as one of two names.
-fn read_either<T: Copy>(
-    words: &[&[u8]],
-    i: usize,
-    first: &[u8],
-    x: T,
-    second: &[u8],
-    y: T,
-) -> Result<T, Misread>
-    requires { Present words.now i }
-    ensures { result ≡ at (either first.now x second.now y) (texts words.now) i }
+// What is wrong with a word that is none of the names.
+fn unknown<T: Copy>(word: NumberedWord<'_>) -> Result<T, Misread>
+    ensures { result ≡ Err (UnknownWord word.entry.number) }
 {
-    let name = word(words, i);
-    if is(name, first) {
-        Ok(x)
-    } else if is(name, second) {
-        Ok(y)
-    } else {
-        Err(Misread::UnknownWord(i))
+    Err(Misread::UnknownWord(word.number))
+}
+
+// One function for these three would take two texts and two values: it would be no shorter than a match.
+impl Field for KindName {
+    ghost reads = { kind };
+
+    fn of(word: NumberedWord<'_>) -> Result<KindName, Misread> {
+        match word.text {
+            b"right" => Ok(KindName::Right),
+            b"trigger" => Ok(KindName::Trigger),
+            _ => unknown(word),
+        }
     }
 }
 
-/// Word `i` as a kind.
-pub fn read_kind(words: &[&[u8]], i: usize) -> Result<KindName, Misread>
-    requires { Present words.now i }
-    ensures { result ≡ at kind (texts words.now) i }
-{
-    read_either(
-        words,
-        i,
-        b"right",
-        KindName::Right,
-        b"trigger",
-        KindName::Trigger,
-    )
+impl Field for Slope {
+    ghost reads = { slope };
+
+    fn of(word: NumberedWord<'_>) -> Result<Slope, Misread> {
+        match word.text {
+            b"rising" => Ok(Slope::Rising),
+            b"falling" => Ok(Slope::Falling),
+            _ => unknown(word),
+        }
+    }
 }
 
-/// Word `i` as a slope.
-pub fn read_slope(words: &[&[u8]], i: usize) -> Result<SlopeName, Misread>
-    requires { Present words.now i }
-    ensures { result ≡ at slope (texts words.now) i }
-{
-    read_either(
-        words,
-        i,
-        b"rising",
-        SlopeName::Rising,
-        b"falling",
-        SlopeName::Falling,
-    )
-}
+impl Field for VoteName {
+    ghost reads = { vote };
 
-/// Word `i` as a vote.
-pub fn read_vote(words: &[&[u8]], i: usize) -> Result<VoteName, Misread>
-    requires { Present words.now i }
-    ensures { result ≡ at vote (texts words.now) i }
-{
-    read_either(
-        words,
-        i,
-        b"majority",
-        VoteName::Majority,
-        b"threshold",
-        VoteName::Threshold,
-    )
+    fn of(word: NumberedWord<'_>) -> Result<VoteName, Misread> {
+        match word.text {
+            b"majority" => Ok(VoteName::Majority),
+            b"threshold" => Ok(VoteName::Threshold),
+            _ => unknown(word),
+        }
+    }
 }

@@ -1,13 +1,12 @@
-//! A word read as a number.
+//! Words read as numbers.
 ghost use Rattle.std.specs.Prelude.{◌≡◌, min, drop, if◌then◌else◌, Some, None};
-ghost use Rattle.fields.specs.Numbers.{digits, value, negative, number, level};
-ghost use Rattle.fields.specs.Steps.{Present, at};
-ghost use Rattle.words.specs.Words.{texts};
+ghost use Rattle.fields.specs.Numbers.{digits, value, negative, number, level, entry};
 
 use crate::forms::Misread;
-use crate::picking::word;
+use crate::picking::{Field, NumberedWord};
 
 /// The number that a word of digits writes, or 4294967296 if it is larger.
+// All larger numbers are out of range alike, and a word may have more digits than any type. No `parse`, which takes a `+` too.
 fn amount(word: &[u8]) -> Option<u64>
     ensures { result ≡ (if digits word.now then Some (min (value word.now) 4294967296) else None) }
 {
@@ -28,47 +27,44 @@ fn amount(word: &[u8]) -> Option<u64>
 fn amount_below_zero(word: &[u8]) -> Option<u64>
     ensures { result ≡ (if negative word.now then Some (min (value (drop 1 word.now)) 4294967296) else None) }
 {
-    if word.is_empty() || word[0] != b'-' {
-        return None;
+    match word {
+        [b'-', digits @ ..] => amount(digits),
+        _ => None,
     }
-    amount(&word[1..])
 }
 
-/// Word `i` as a number.
-pub fn read_number(words: &[&[u8]], i: usize) -> Result<u32, Misread>
-    requires { Present words.now i }
-    ensures { result ≡ at number (texts words.now) i }
-{
-    let word = word(words, i);
-    if amount_below_zero(word).is_some() {
-        return Err(Misread::Negative(i));
-    }
-    let Some(n) = amount(word) else {
-        return Err(Misread::NotNumber(i));
-    };
-    if n > 4294967295 {
-        return Err(Misread::TooLarge(i));
-    }
-    Ok(n as u32)
-}
+impl Field for u32 {
+    ghost reads = { number };
 
-/// Word `i` as the level of a trigger.
-pub fn read_level(words: &[&[u8]], i: usize) -> Result<i32, Misread>
-    requires { Present words.now i }
-    ensures { result ≡ at level (texts words.now) i }
-{
-    let word = word(words, i);
-    if let Some(n) = amount_below_zero(word) {
-        if n > 2147483648 {
-            return Err(Misread::TooLarge(i));
+    #[tactic(auto, unfolding(crate::specs::Numbers::number))]
+    fn of(word: NumberedWord<'_>) -> Result<u32, Misread> {
+        if amount_below_zero(word.text).is_some() {
+            return Err(Misread::Negative(word.number));
         }
-        return Ok((0 - n as i64) as i32);
+        let n = amount(word.text).ok_or(Misread::NotNumber(word.number))?;
+        u32::try_from(n).map_err(|_| Misread::TooLarge(word.number))
     }
-    let Some(n) = amount(word) else {
-        return Err(Misread::NotNumber(i));
-    };
-    if n > 2147483647 {
-        return Err(Misread::TooLarge(i));
+}
+
+impl Field for i32 {
+    ghost reads = { level };
+
+    fn of(word: NumberedWord<'_>) -> Result<i32, Misread> {
+        let n = match amount_below_zero(word.text) {
+            Some(n) => -(n as i64),
+            None => amount(word.text).ok_or(Misread::NotNumber(word.number))? as i64,
+        };
+        i32::try_from(n).map_err(|_| Misread::TooLarge(word.number))
     }
-    Ok(n as i32)
+}
+
+impl Field for Option<u32> {
+    ghost reads = { entry };
+
+    fn of(word: NumberedWord<'_>) -> Result<Option<u32>, Misread> {
+        match word.text {
+            b"-" => Ok(None),
+            _ => u32::of(word).map(Some),
+        }
+    }
 }

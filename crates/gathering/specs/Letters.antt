@@ -2,7 +2,8 @@
 use Rattle.std.specs.Prelude.{ℕ, Bool, cond, Some, None, Option}
 use Rattle.std.specs.Option.{unwrap_or}
 use Rattle.kinds.specs.Models.{KindModel}
-use Rattle.lines.specs.Lines.{LineModel, Way}
+use Rattle.lines.specs.Lines.{LineModel}
+use Rattle.lines.specs.declared.way.Way.{Way}
 
 module _ {V : Type 0} (kind : KindModel V) where
   -- what arrives, as a value: nothing, or a code that cannot be read, is ground

@@ -11,7 +11,8 @@ pub use right::{Minutes, Right};
 pub use trigger::{Slope, Trigger};
 
 /// A kind of value that the units of a rack can agree on.
-// `same` says for every kind when two values are equal: by their codes. So no implementer owes an `Eq` that agrees with it.
+// `code` and `read` are no `From` and `TryFrom`, since generic code needs one law for the two. `same` says for every kind
+// when two values are equal: by their codes. So no implementer owes an `Eq` that agrees with it.
 pub trait Kind: Copy {
     ghost model: { KindModel Self };
 

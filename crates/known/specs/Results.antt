@@ -7,7 +7,7 @@ use Rattle.kinds.specs.declared.trigger.Slope.TheVariants.{Falling}
 use Rattle.kinds.specs.Rights.{right_of, right_code, right_model}
 use Rattle.kinds.specs.Triggers.{trigger_from, trigger_of, trigger_code}
 use Rattle.places.specs.Answers.{place_answer}
-use Rattle.places.specs.Widths.{width}
+use Rattle.sequences.specs.Widths.{width}
 use Rattle.votes.specs.Meanings.{majority, threshold}
 
 -- the rights with these codes, as entries of a vote

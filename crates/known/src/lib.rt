@@ -20,38 +20,27 @@ fn rights() -> bool
 fn triggers() -> bool
     ensures { result ≡ true }
 {
-    let Some(trigger) = Trigger::new(3, Slope::Falling, -5) else {
-        return false;
-    };
-    trigger.code() == 22523 && Trigger::read(32768).is_none()
+    Trigger::new(3, Slope::Falling, -5).is_some_and(|trigger| trigger.code() == 22523)
+        && Trigger::read(32768).is_none()
 }
 
 fn places() -> bool
     ensures { result ≡ true }
 {
-    match Shape::new(4, 1, 4) {
-        Ok(shape) => shape.place(&[1, 0, 3]) == Ok(1),
-        Err(_) => false,
-    }
+    Shape::new(4, 1, 4).is_ok_and(|shape| shape.place(&[1, 0, 3]) == Ok(1))
 }
 
 fn widths() -> bool
     ensures { result ≡ true }
 {
-    match Shape::new(21, 0, 4) {
-        Ok(shape) => shape.width(4) == Ok(6840),
-        Err(_) => false,
-    }
+    Shape::new(21, 0, 4).is_ok_and(|shape| shape.width(4) == Ok(6840))
 }
 
 // Whether the answer is the right with the code.
 fn is_right(answer: Option<Right>, code: u32) -> bool
     ensures { result ≡ has_code answer code }
 {
-    match answer {
-        Some(right) => right.code() == code,
-        None => false,
-    }
+    answer.is_some_and(|right| right.code() == code)
 }
 
 fn votes() -> bool

@@ -9,11 +9,11 @@ use Rattle.lines.specs.States.{ScriptState}
 
 -- why adding a record is refused: its sender is above 20; the table is full, or 65,535 records are in use
 abbrev pub add_refusal : ScriptState → Record → Option ScriptFault
-add_refusal s e = unless (nat_le e.from 20) Sender (unless (nat_lt s.used (length s.table) && nat_lt s.used 65535) Full None)
+add_refusal s e = unless (nat_le e.way.from 20) Sender (unless (nat_lt s.used (length s.table) && nat_lt s.used 65535) Full None)
 
 -- the table's next free entry holds the record, and its sender is in the mask
 abbrev pub extended : ScriptState → Record → ScriptState
-extended s e = record { table = slice_set s.table s.used e; used = s.used + 1; loose = joined_by s.loose e.from }
+extended s e = record { table = slice_set s.table s.used e; used = s.used + 1; loose = joined_by s.loose e.way.from }
 
 -- the script once a record was added, or refused
 abbrev pub after_add : ScriptState → Record → ScriptState

@@ -1,5 +1,5 @@
 -- The refusals of a script: their numbers, and what a refused call answers and leaves.
-use Rattle.std.specs.Prelude.{ℕ, Bool, cond, Some, None, Ok, Err, Option, Result}
+use Rattle.std.specs.Prelude.{ℕ, Bool, cond, List, Some, None, Ok, Err, Option, Result, codes}
 use Rattle.lines.specs.declared.fault.ScriptFault.{ScriptFault}
 use Rattle.lines.specs.declared.fault.ScriptFault.TheVariants.{Sender, Full}
 
@@ -7,6 +7,11 @@ use Rattle.lines.specs.declared.fault.ScriptFault.TheVariants.{Sender, Full}
 abbrev pub fault_number : ScriptFault → ℕ
 fault_number Sender = 16  -- the sender of an added record is above 20
 fault_number Full = 18  -- more records than the table holds, or than 65,535
+
+-- the text of each refusal
+abbrev pub fault_text : ScriptFault → List ℕ
+fault_text Sender = codes "sender above 20"
+fault_text Full = codes "script full"
 
 -- refused by this fault unless the test holds; else by what follows
 abbrev pub unless : Bool → ScriptFault → Option ScriptFault → Option ScriptFault

@@ -1,17 +1,7 @@
 -- What a line is: whom it names as loose, what arrives by it, and the law that joins the two.
 use Rattle.std.specs.Prelude.{◌≡◌, ℕ, false, Some, Option}
 use Rattle.masks.specs.Masks.{holds}
-
--- the way of a letter
-pub record Way : Type 0 where
-  pub round : ℕ
-  pub from : ℕ  -- the sender
-  pub to : ℕ  -- the receiver
-  pub place : ℕ  -- the place that the letter is about
-
--- the way by its round, sender, receiver and place
-abbrev pub way_of : ℕ → ℕ → ℕ → ℕ → Way
-way_of round from to place = record { round = round; from = from; to = to; place = place }
+use Rattle.lines.specs.declared.way.Way.{Way}
 
 -- what a line means
 pub record LineModel : Type 0 where

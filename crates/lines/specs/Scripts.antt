@@ -1,17 +1,17 @@
 -- What arrives by a script: the first record for a letter's way tells it.
-use Rattle.std.specs.Prelude.{ℕ, Bool, cond, ◌&&◌, List, [], ◌∷◌, Some, None, Option, ◌==◌}
+use Rattle.std.specs.Prelude.{ℕ, Bool, cond, ◌&&◌, List, Some, None, Option, find, ◌==◌}
 use Rattle.masks.specs.Masks.{holds}
 use Rattle.lines.specs.declared.script.Record.{Record}
-use Rattle.lines.specs.Lines.{Way, LineModel}
+use Rattle.lines.specs.declared.way.Way.{Way}
+use Rattle.lines.specs.Lines.{LineModel}
 
--- the record is for this round, sender, receiver and place
+-- the record is for the way: for its round, sender, receiver and place
 abbrev pub fitting : Way → Record → Bool
-fitting w e = e.round == w.round && (e.from == w.from && (e.to == w.to && e.place == w.place))
+fitting w e = e.way.round == w.round && (e.way.from == w.from && (e.way.to == w.to && e.way.place == w.place))
 
 -- the first record for the way, if there is one
 abbrev pub first_match : Way → List Record → Option Record
-first_match w [] = None
-first_match w (e ∷ es) = cond (fitting w e) (Some e) (first_match w es)
+first_match w es = find (fitting w) es
 
 -- what arrives by a record: its code, where 4294967295 means that nothing arrives
 abbrev pub brought : Record → Option ℕ

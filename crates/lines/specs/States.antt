@@ -1,5 +1,5 @@
 -- All that a script holds, and the line that it is.
-use Rattle.std.specs.Prelude.{ℕ, List, take}
+use Rattle.std.specs.Prelude.{◌≡◌, ℕ, List, take}
 use Rattle.lines.specs.declared.script.Record.{Record}
 use Rattle.lines.specs.declared.script.Script.{Script}
 use Rattle.lines.specs.Lines.{LineModel}
@@ -13,6 +13,10 @@ pub record ScriptState : Type 0 where
 -- what a script holds
 abbrev pub view : Script → ScriptState
 view s = record { table = s.table.now; used = s.used; loose = s.loose }
+
+-- a call made the old script the new one: it holds this, and its memory is the same loan as before, so that the lender learns what it holds
+abbrev pub Becomes : Script → Script → ScriptState → Type 0
+Becomes old new state = (view new ≡ state) × (new.table.ghost_name ≡ old.table.ghost_name)
 
 -- no record and no loose unit, over this memory
 abbrev pub blank : List Record → ScriptState

@@ -2,6 +2,7 @@ ghost use Rattle.lines.specs.Laws.{clean_faithful};
 ghost use Rattle.lines.specs.Piles.{clean};
 
 use crate::line::Line;
+use crate::way::Way;
 
 /// The line on which every letter arrives as given.
 #[derive(Clone, Copy)]
@@ -16,7 +17,7 @@ impl Line for Clean {
         0
     }
 
-    fn carry(&self, _round: u32, _from: u32, _to: u32, _place: u32, code: u32) -> Option<u32> {
+    fn carry(&self, _way: Way, code: u32) -> Option<u32> {
         Some(code)
     }
 }

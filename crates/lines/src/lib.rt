@@ -6,9 +6,11 @@ mod fault;
 mod line;
 mod mute;
 mod script;
+mod way;
 
 pub use clean::Clean;
 pub use fault::ScriptFault;
 pub use line::Line;
 pub use mute::Mute;
 pub use script::{Record, Script};
+pub use way::Way;

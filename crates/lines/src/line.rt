@@ -1,5 +1,7 @@
 ghost use Rattle.std.specs.Prelude.{◌≡◌};
-ghost use Rattle.lines.specs.Lines.{Faithful, LineModel, way_of};
+ghost use Rattle.lines.specs.Lines.{Faithful, LineModel};
+
+use crate::way::Way;
 
 /// A line names its loose units and tells what arrives of what is given. Asking it alters nothing and is never refused.
 pub trait Line {
@@ -13,9 +15,9 @@ pub trait Line {
     fn mask(&self) -> u32
         ensures { result ≡ (model self.now).mask };
 
-    /// What arrives of a code that unit `from` gives to unit `to`, in a round and for a place: a code, or nothing.
-    fn carry(&self, round: u32, from: u32, to: u32, place: u32, code: u32) -> Option<u32>
-        ensures { result ≡ (model self.now).arrives (way_of round from to place) code };
+    /// What arrives of a code that the way's sender gives to its receiver: a code, or nothing.
+    fn carry(&self, way: Way, code: u32) -> Option<u32>
+        ensures { result ≡ (model self.now).arrives way code };
 }
 
 /// A lent line means what the line means, so that lines can be piled on one that its owner keeps.
@@ -28,7 +30,7 @@ impl<L: Line> Line for &L {
         (*self).mask()
     }
 
-    fn carry(&self, round: u32, from: u32, to: u32, place: u32, code: u32) -> Option<u32> {
-        (*self).carry(round, from, to, place, code)
+    fn carry(&self, way: Way, code: u32) -> Option<u32> {
+        (*self).carry(way, code)
     }
 }

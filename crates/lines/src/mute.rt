@@ -2,6 +2,7 @@ ghost use Rattle.lines.specs.Laws.{muted_faithful};
 ghost use Rattle.lines.specs.Piles.{muted};
 
 use crate::line::Line;
+use crate::way::Way;
 use masks::{has, join};
 
 /// A line over another one: letters from `units` bring nothing, and all else is as below.
@@ -21,11 +22,11 @@ impl<L: Line> Line for Mute<L> {
         join(self.units, self.below.mask())
     }
 
-    fn carry(&self, round: u32, from: u32, to: u32, place: u32, code: u32) -> Option<u32> {
-        if has(self.units, from) {
+    fn carry(&self, way: Way, code: u32) -> Option<u32> {
+        if has(self.units, way.from) {
             None
         } else {
-            self.below.carry(round, from, to, place, code)
+            self.below.carry(way, code)
         }
     }
 }

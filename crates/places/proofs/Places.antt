@@ -1,18 +1,18 @@
 -- The answers of a shape, by the place of a sequence and by its way back.
-use Rattle.std.proofs.Common.{◌≡◌, ℕ, zero, suc, ◌+◌, ◌-◌, ◌*◌, ◌/◌, ◌<◌, ◌≤◌, true, not, ◌&&◌, ltb, List, [], ◌∷◌, ◌++◌, reverse, length, get_or, Ok, sym, ap, ◌∙◌, subst, ap₂, inl, mul-le-mul_right, arith}
-use Rattle.std.proofs.lemmas.List.{reverse-reverse, reverse-append, length-reverse}
+use Rattle.std.proofs.Common.{◌≡◌, ℕ, zero, suc, ◌+◌, ◌-◌, ◌*◌, ◌/◌, ◌<◌, ◌≤◌, true, not, ◌&&◌, ltb, List, [], ◌∷◌, reverse, length, get_or, Ok, sym, ap, ◌∙◌, subst, ap₂, inl, mul-le-mul_right, arith}
+use Rattle.std.proofs.lemmas.List.{reverse-reverse, length-reverse}
 use Rattle.std.proofs.lemmas.Nat.{mul-le, div-mul-add, mod-mul-add}
 use Rattle.std.proofs.lemmas.Bool.{and_parts, and_from, leb-true, ltb-true, lt-ltb, le-leb, eqb-true, eq-eqb, cond-true}
 use Rattle.masks.specs.Lists.{In, units}
 use Rattle.masks.proofs.Members.{get_or_in, in_kept, kept_in, in_counting, counting_in}
 use Rattle.places.specs.declared.shape.Shape.{Shape}
 use Rattle.places.specs.Numbers.{has_level}
-use Rattle.places.specs.Sequences.{among, absent, sequences, place, proper, last_of, parent_of}
-use Rattle.places.specs.Units.{Shows, free}
-use Rattle.places.proofs.Bounds.{wide, width_most}
-use Rattle.places.proofs.Free.{parent_place, free_absent}
-use Rattle.places.proofs.Index.{place_of, fans, level_digit, children_count}
-use Rattle.places.proofs.Levels.{level_length, level_root, level_cons, level_child}
+use Rattle.sequences.specs.Sequences.{among, absent, sequences, place, proper, last_of, parent_of}
+use Rattle.sequences.specs.Units.{Shows, free}
+use Rattle.sequences.proofs.Bounds.{wide, width_most}
+use Rattle.sequences.proofs.Free.{parent_place, free_absent}
+use Rattle.sequences.proofs.Index.{place_of, fans, level_digit, children_count}
+use Rattle.sequences.proofs.Levels.{level_length, level_root, level_cons, level_child}
 use Rattle.places.proofs.Shapes.{source_in, has_place, sequence_at, back_answer, child_answer, place_answer}
 
 -- what it says that level k has a place i
@@ -122,7 +122,3 @@ found_back shape k i us is_there e =
     let is_proper : proper n s (reverse us) ≡ true = ap (proper n s) r ∙ in_proper n s (k - 1) α at in
     cond-true (has_level shape.levels (length us) && proper n s (reverse us)) _ _ (and_from _ _ has is_proper)
     ∙ ap Ok (ap (place n) r ∙ place_of n s (source_in shape) (k - 1) i t.2)
-
--- the units of a sequence lengthened by one
-pub longer : (w : ℕ) (α γ us vs : List ℕ) → vs ≡ us ++ w ∷ [] → us ≡ reverse α → γ ≡ w ∷ α → vs ≡ reverse γ
-longer w α γ us vs e f g = e ∙ (ap (λ xs. xs ++ w ∷ []) f ∙ (sym (reverse-append (w ∷ []) α) ∙ ap reverse (sym g)))

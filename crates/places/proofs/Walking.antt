@@ -1,18 +1,31 @@
 -- The place of a sequence, unit after unit.
-use Rattle.std.proofs.Common.{◌≡◌, ℕ, ◌+◌, ◌-◌, ◌*◌, ◌^◌, ◌<◌, ◌≤◌, true, false, not, ◌&&◌, eqb, ltb, leb, ◌⊎◌, List, [], ◌∷◌, ◌++◌, reverse, length, get_or, take, drop, Ok, Err, count_by, sym, refl, ap, ◌∙◌, subst, ap₂, ⊎_elim, arith}
+use Rattle.std.proofs.Common.{◌≡◌, ℕ, ◌+◌, ◌-◌, ◌*◌, ◌^◌, ◌<◌, ◌≤◌, true, false, not, ◌&&◌, eqb, ltb, leb, ◌⊎◌, List, [], ◌∷◌, ◌++◌, reverse, length, get_or, take, drop, Ok, Err, Option, None, Some, count_by, sym, refl, ap, ◌∙◌, subst, ap₂, ⊎_elim, arith}
 use lib.Bits.{bit_or, or_zero_l}
-use Rattle.std.proofs.lemmas.List.{reverse-append, length-append, length-reverse, length-take-le, take_more, take_all, take-append-drop}
+use Rattle.std.proofs.lemmas.List.{reverse-append, length-append, length-drop, get_or-drop, get_or_default, length-reverse, length-take-le, take_more, take_all, take-append-drop}
 use Rattle.std.proofs.lemmas.Nat.{mul-le}
 use Rattle.std.proofs.lemmas.Bool.{and_parts, and_from, and_left, and_cases, cases_Bool, both_ways, lt-ltb, le-ltb, leb-true, eqb-true, eq-eqb, not_from_true, not_from_false, cond-true, cond-false}
+use denote.Ref.{Bor}
+use Rattle.std.proofs.iter.Yields.{fronts}
+use Rattle.std.proofs.lemmas.Iterator.{YieldsList, YieldsList-from_slice}
+use Rattle.std.proofs.lemmas.Iterator.Adapters.{YieldsList-from_skip}
+use Rattle.std.proofs.lemmas.Iterator.Consumers.{YieldsList-at, YieldsList-from_enumerate, YieldsList-turn, YieldsList-end}
+use Rattle.std.proofs.lemmas.List.FromFn.{length-enumerate_from, get_or-enumerate_from}
+use Rattle.std.specs.Iterator.{Yields}
+use Rattle.std.specs.Iterator.Adapters.{skip_source, skip_count, skip_steps, enumerate_source, enumerate_count, enumerate_steps}
+use Rattle.std.specs.List.{enumerate_from}
+use Rattle.std.specs.Slice.Iter.{iter_rest}
+use Rattle.std.specs.declared.iter.Enumerate.{Enumerate}
+use Rattle.std.specs.declared.iter.Skip.{Skip}
+use Rattle.std.specs.declared.slice.Iter.{Iter}
 use Rattle.masks.specs.Masks.{holds, joined_by}
 use Rattle.places.specs.declared.fault.PlaceFault.TheVariants.{Absent}
 use Rattle.places.specs.declared.shape.Shape.{Shape}
 use Rattle.places.specs.Numbers.{has_level}
-use Rattle.places.specs.Sequences.{among, absent, sequences, place, proper}
-use Rattle.places.specs.Units.{Shows, free}
-use Rattle.places.proofs.Bounds.{wide, width_most}
-use Rattle.places.proofs.Free.{free_rank, free_absent, root_shows, child_shows}
-use Rattle.places.proofs.Index.{place_at, place_cons}
+use Rattle.sequences.specs.Sequences.{among, absent, sequences, place, proper}
+use Rattle.sequences.specs.Units.{Shows, free}
+use Rattle.sequences.proofs.Bounds.{wide, width_most}
+use Rattle.sequences.proofs.Free.{free_rank, free_absent, root_shows, child_shows}
+use Rattle.sequences.proofs.Index.{place_at, place_cons}
 use Rattle.places.proofs.Places.{proper_in}
 use Rattle.places.proofs.Shapes.{source_in, sequence_at, begun, place_answer}
 
@@ -32,6 +45,10 @@ proper_tail n s (u ∷ β) α l t =
 abbrev pub front : List ℕ → ℕ → List ℕ
 front us i = reverse (take i us)
 
+-- the walk has come past i units that are a sequence, has their mask and their place
+abbrev pub Come : Shape → List ℕ → ℕ → ℕ → ℕ → Type 0
+Come shape us i seen at = (proper shape.n shape.source (front us i) ≡ true) × Shows seen (front us i) × (at ≡ place shape.n (front us i))
+
 module _ (us : List ℕ) where
   pub front_length : (i : ℕ) → i ≤ length us → length (front us i) ≡ i
   front_length i l = length-reverse (take i us) ∙ length-take-le i us l
@@ -44,6 +61,28 @@ module _ (us : List ℕ) where
   front_proper n s i one l t =
       let split : reverse us ≡ reverse (drop i us) ++ front us i = ap reverse (sym (take-append-drop i us)) ∙ reverse-append (take i us) (drop i us) in
       proper_tail n s (reverse (drop i us)) (front us i) (omega (arith, front_length i l)) (sym (ap (proper n s) split) ∙ t)
+
+-- a walk over the units after the first one, each with its index: after k of them it reads the one at k + 1
+module _ (us : List ℕ) {it : Iter ℕ} {numbered : Enumerate (Iter ℕ)} {after_first walk : Skip (Enumerate (Iter ℕ))}
+    (whole : iter_rest it ≡ us) (over : enumerate_source numbered ≡ it) (from_0 : enumerate_count numbered ≡ 0)
+    (rest : skip_source after_first ≡ numbered) (one : skip_count after_first ≡ 1) (is : walk ≡ after_first) where
+  after_the_first : YieldsList (skip_steps (enumerate_steps fronts)) (λ p. (p.0, p.1.now)) walk (drop 1 (enumerate_from 0 us))
+  after_the_first =
+      YieldsList-at is (YieldsList-from_skip 1 (YieldsList-at rest (YieldsList-from_enumerate (YieldsList-at over (YieldsList-from_slice us whole)) from_0)) one)
+
+  module _ (xs : List (ℕ × Bor ℕ)) (t : Skip (Enumerate (Iter ℕ))) (so_far : Yields (skip_steps (enumerate_steps fronts)) walk xs t) (r : Option (ℕ × Bor ℕ)) (u : Skip (Enumerate (Iter ℕ))) (step : skip_steps (enumerate_steps fronts) t r u) where
+    pub read : (i : ℕ) (unit : Bor ℕ) → r ≡ Some (i, unit) → (i ≡ length xs + 1) × (i < length us) × (unit.now ≡ get_or us i 0)
+    read i unit e =
+        let turn = YieldsList-turn after_the_first xs t so_far r u (i, unit) e step in
+        let low : 1 + length xs < length us = omega (arith, turn.0, length-drop 1 (enumerate_from 0 us), length-enumerate_from 0 us) in
+        let at : ◌≡◌ {A = ℕ × ℕ} (i, unit.now) (0 + (1 + length xs), get_or us (1 + length xs) unit.now) =
+        turn.1 ∙ (get_or-drop 1 (enumerate_from 0 us) (length xs) (i, unit.now) ∙ get_or-enumerate_from 0 us (1 + length xs) (i, unit.now) low) in
+        let index : i ≡ 0 + (1 + length xs) = ap (λ (p : ℕ × ℕ). p.0) at in
+        let is_i : i ≡ 1 + length xs = omega arith in
+        (omega arith, omega arith, ap (λ (p : ℕ × ℕ). p.1) at ∙ (get_or_default us (1 + length xs) unit.now 0 low ∙ ap (λ k. get_or us k 0) (sym is_i)))
+
+    pub read_all : r ≡ None → 1 ≤ length us → length xs + 1 ≡ length us
+    read_all e some = omega (arith, (YieldsList-end after_the_first xs t so_far r u e step).1, length-drop 1 (enumerate_from 0 us), length-enumerate_from 0 us)
 
 module _ (shape : Shape) (us : List ℕ) where
   refused : (has_level shape.levels (length us) && proper shape.n shape.source (reverse us)) ≡ false → Err Absent ≡ place_answer shape us
@@ -93,29 +132,23 @@ module _ (shape : Shape) (us : List ℕ) where
         (λ f. refused f)
         (cases_Bool (has_level shape.levels (length us) && proper shape.n shape.source (reverse us)))
 
-    pub yes_next : u < shape.n → holds seen u ≡ false → proper shape.n shape.source (front us i) ≡ true
-        → proper shape.n shape.source (front us (i + 1)) ≡ true
-    yes_next lu out t = next_proper ∙ and_from _ _ (lt-ltb u shape.n lu) (and_from _ _ (not_from_false (holds seen u) out) t)
-
-    pub shows_next : (more : ℕ) → u < shape.n → more ≡ joined_by seen u → Shows more (front us (i + 1))
-    shows_next more lu e =
-        let low : u < 32 = omega (arith, shape.most) in
-        let f : more ≡ bit_or seen (2 ^ u) = e ∙ cond-true (ltb u 32) _ _ (lt-ltb u 32 low) in
-        subst (λ γ. Shows more γ) (sym next) (subst (λ x. Shows x (u ∷ front us i)) (sym f) (child_shows seen u (front us i) shows))
-
-    pub place_next : (at rank : ℕ) → u < shape.n → at ≡ place shape.n (front us i) → rank ≡ length (free seen u)
-        → at * (shape.n - i) + rank ≡ place shape.n (front us (i + 1))
-    place_next at rank lu e f =
+    pub come_next : (at rank more : ℕ) → u < shape.n → holds seen u ≡ false → proper shape.n shape.source (front us i) ≡ true → at ≡ place shape.n (front us i)
+        → rank ≡ length (free seen u) → more ≡ joined_by seen u → Come shape us (i + 1) more (at * (shape.n - i) + rank)
+    come_next at rank more lu out t e f g =
         let α = front us i in
         let long = front_length us i (omega arith) in
-        let r : rank ≡ count_by (λ x. ltb x u) (absent shape.n α) =
-        f ∙ (sym (free_rank seen shape.n u (omega arith)) ∙ ap (count_by (λ x. ltb x u)) (free_absent seen shape.n α shows)) in
-        sym (ap (place shape.n) next ∙ (place_cons shape.n u α (omega arith) ∙ ap₂ (λ x y. x + y) (ap₂ (λ x y. x * (shape.n - y)) (sym e) long) (sym r)))
+        let low : u < 32 = omega (arith, shape.most) in
+        let joined : more ≡ bit_or seen (2 ^ u) = g ∙ cond-true (ltb u 32) _ _ (lt-ltb u 32 low) in
+        let counted : rank ≡ count_by (λ x. ltb x u) (absent shape.n α) =
+        f ∙ (sym (free_rank seen shape.n u (omega arith)) ∙ ap (count_by (λ x. ltb x u)) (free_absent seen shape.n α shows)) in (
+          next_proper ∙ and_from _ _ (lt-ltb u shape.n lu) (and_from _ _ (not_from_false (holds seen u) out) t),
+          subst (λ γ. Shows more γ) (sym next) (subst (λ x. Shows x (u ∷ α)) (sym joined) (child_shows seen u α shows)),
+          sym (ap (place shape.n) next ∙ (place_cons shape.n u α (omega arith) ∙ ap₂ (λ x y. x + y) (ap₂ (λ x y. x * (shape.n - y)) (sym e) long) (sym counted))),
+        )
 
   -- the first unit alone
   pub first : (seen : ℕ) → begun shape us ≡ true → seen ≡ joined_by 0 shape.source
-      → (proper shape.n shape.source (front us 1) ≡ true) × Shows seen (front us 1)
-      × (0 ≡ place shape.n (front us 1))
+      → Come shape us 1 seen 0
   first seen t e =
       let s = shape.source in
       let parts = begun_parts t in

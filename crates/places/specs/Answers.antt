@@ -1,13 +1,12 @@
 -- What the functions of this layer answer, granted or refused.
-use Rattle.std.specs.Prelude.{ℕ, ◌+◌, ◌-◌, ◌*◌, Bool, cond, ◌&&◌, List, [], reverse, length, take, Ok, Err, Result, ◌==◌, nat_lt, slice_index, slice_index_or}
+use Rattle.std.specs.Prelude.{ℕ, ◌+◌, ◌-◌, ◌*◌, Bool, cond, ◌&&◌, List, [], reverse, length, Ok, Err, Result, ◌==◌, nat_lt, slice_index, slice_index_or}
 use Rattle.places.specs.declared.fault.PlaceFault.{PlaceFault}
 use Rattle.places.specs.declared.fault.PlaceFault.TheVariants.{Units, Source, Absent}
-use Rattle.places.specs.declared.sequence.Sequence.{Sequence}
 use Rattle.places.specs.declared.shape.Shape.{Shape}
 use Rattle.places.specs.Numbers.{units_wrong, source_wrong, has_level}
-use Rattle.places.specs.Sequences.{absent, level, place, proper, last_of, parent_of}
-use Rattle.places.specs.Sizes.{first_entry}
-use Rattle.places.specs.Widths.{width}
+use Rattle.sequences.specs.Sequences.{absent, level, place, proper, last_of, parent_of}
+use Rattle.sequences.specs.Sizes.{first_entry}
+use Rattle.sequences.specs.Widths.{width}
 
 -- the answer where a test passes; else there is no such unit, level or place
 abbrev pub if_there : {X : Type 0} → Bool → X → Result X PlaceFault
@@ -35,10 +34,7 @@ has_place n h k i = has_level h k && nat_lt i (width n k)
 abbrev pub sequence_at : ℕ → ℕ → ℕ → ℕ → List ℕ
 sequence_at n s k i = slice_index_or (level n s k) i []
 
--- the units of a sequence, the source first
-abbrev pub units_of : Sequence → List ℕ
-units_of sequence = take sequence.level sequence.units
-
+-- the units of the sequence at a place, the source first
 abbrev pub sequence_answer : ℕ → ℕ → ℕ → ℕ → ℕ → Result (List ℕ) PlaceFault
 sequence_answer n s h k i = if_there (has_place n h k i) (reverse (sequence_at n s k i))
 

@@ -8,12 +8,10 @@ pub mod fault;
 mod lookups;
 pub mod sequence;
 pub mod shape;
-mod walks;
-mod widths;
 
 /// Whether a rack cannot have n units: it has 4 to 21.
 pub fn units_wrong(n: u32) -> bool
     ensures { result ≡ units_wrong n }
 {
-    n < 4 || n > 21
+    !(4..=21).contains(&n)
 }

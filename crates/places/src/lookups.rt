@@ -1,42 +1,20 @@
 ghost use Rattle.std.specs.Prelude.{◌≡◌, ℕ, ◌+◌, ◌-◌, ◌*◌, ◌<◌, ◌≤◌, [], ◌∷◌, ◌++◌, reverse, length, IfOk, Ok, slice_index_or};
 ghost use Rattle.std.specs.Result.{result_map_both};
-ghost use Rattle.places.specs.Answers.{shape_parts, shape_answer, width_answer, has_place, sequence_at, units_of, sequence_answer, begun, place_answer, back_answer, child_answer, entry_answer};
-ghost use Rattle.places.specs.Faults.{fault_number};
-ghost use Rattle.places.specs.Sequences.{sequences};
-ghost use Rattle.places.specs.Sizes.{tree_size};
+ghost use Rattle.places.specs.Answers.{shape_parts, shape_answer, width_answer, has_place, sequence_at, sequence_answer, begun, place_answer, back_answer, child_answer, entry_answer};
+ghost use Rattle.places.specs.Numbers.{has_level};
+ghost use Rattle.sequences.specs.Sequences.{sequences};
+ghost use Rattle.sequences.specs.Sizes.{tree_size};
 
 use crate::fault::PlaceFault;
 use crate::sequence::Sequence;
 use crate::shape::Shape;
 use crate::units_wrong;
-use crate::walks::{absent_below, last_at, nth_absent, units_at};
-use crate::widths::tabled_width;
 use masks::{has, with};
+use sequences::ranks::{absent_below, last_at, nth_absent, units_at};
+use sequences::units::Units;
 
 // The most levels a tree has.
 const MOST_LEVELS: u32 = 4;
-
-impl PlaceFault {
-    /// The number of the refusal.
-    pub fn number(&self) -> u32
-        ensures { result ≡ fault_number self.now }
-    {
-        match self {
-            PlaceFault::Units => 1,
-            PlaceFault::Source => 4,
-            PlaceFault::Absent => 13,
-        }
-    }
-}
-
-impl Sequence {
-    /// The units of the sequence, the source first.
-    pub fn units(&self) -> &[u32]
-        ensures { result.now ≡ units_of self.now }
-    {
-        &self.units[0..self.level as usize]
-    }
-}
 
 impl Shape {
     /// Trees of 1 to 4 levels over n units; refused by 1 (n), 4 (source) or 13 (levels).
@@ -49,10 +27,24 @@ impl Shape {
         if n <= source {
             return Err(PlaceFault::Source);
         }
-        if levels < 1 || levels > MOST_LEVELS {
+        if !(1..=MOST_LEVELS).contains(&levels) {
             return Err(PlaceFault::Absent);
         }
         Ok(Shape { n, source, levels })
+    }
+
+    // How many units the rack has.
+    fn units(self) -> Units
+        ensures { result.n ≡ self.n }
+    {
+        Units { n: self.n }
+    }
+
+    // Whether a tree has the level.
+    fn has_level(self, level: u32) -> bool
+        ensures { result ≡ has_level self.levels level }
+    {
+        (1..=self.levels).contains(&level)
     }
 
     /// How many sequences a level has.
@@ -60,17 +52,17 @@ impl Shape {
         ensures value { result ≡ width_answer self.n self.levels level }
         ensures bound { IfOk result (λ wide. wide ≤ 6840) }
     {
-        if level < 1 || level > self.levels {
+        if !self.has_level(level) {
             return Err(PlaceFault::Absent);
         }
-        Ok(tabled_width(self.n, level))
+        Ok(self.units().width(level))
     }
 
     // Whether the level exists and has the place.
     fn has_place(self, level: u32, place: u32) -> bool
         ensures { result ≡ has_place self.n self.levels level place }
     {
-        1 <= level && level <= self.levels && place < tabled_width(self.n, level)
+        self.has_level(level) && place < self.units().width(level)
     }
 
     /// The way back from a place: the last unit of its sequence, and the place of the parent. The root has none.
@@ -81,13 +73,14 @@ impl Shape {
             return Err(PlaceFault::Absent);
         }
         let depth = level - 1;
-        Ok((last_at(self, depth, place), place / (self.n - depth)))
+        let last = last_at(self.n, self.source, depth, place);
+        Ok((last, place / (self.n - depth)))
     }
 
     /// The sequence at a place. Its own place is the one asked for.
     pub fn sequence(self, level: u32, place: u32) -> Result<Sequence, PlaceFault>
-        ensures value { result_map_both units_of (λ e. e) result ≡ sequence_answer self.n self.source self.levels level place }
-        ensures back { IfOk result (λ found. place_answer self.n self.source self.levels (units_of found) ≡ Ok place) }
+        ensures value { result ≡ sequence_answer self.n self.source self.levels level place }
+        ensures back { IfOk result (λ found. place_answer self.n self.source self.levels found ≡ Ok place) }
     {
         if !self.has_place(level, place) {
             return Err(PlaceFault::Absent);
@@ -99,8 +92,7 @@ impl Shape {
     fn begins(self, units: &[u32]) -> bool
         ensures { result ≡ begun self.source self.levels units.now }
     {
-        let many = units.len();
-        1 <= many && many <= self.levels as usize && units[0] == self.source
+        units.len() <= self.levels as usize && units.first() == Some(&self.source)
     }
 
     /// The place of a sequence, which is given with the source first, in the level of as many units. The sequence at that place is the one given.
@@ -114,8 +106,7 @@ impl Shape {
         }
         let mut seen = with(0, self.source);
         let mut place = 0;
-        for i in 1..units.len() {
-            let unit = units[i];
+        for (i, &unit) in units.iter().enumerate().skip(1) {
             if unit >= self.n || has(seen, unit) {
                 return Err(PlaceFault::Absent);
             }
@@ -133,7 +124,7 @@ impl Shape {
         if level >= self.levels || !self.has_place(level, place) || j >= self.n - level {
             return Err(PlaceFault::Absent);
         }
-        let units = units_at(self, level - 1, place);
+        let units = units_at(self.n, self.source, level - 1, place);
         Ok((nth_absent(units, self.n, j), place * (self.n - level) + j))
     }
 
@@ -142,7 +133,7 @@ impl Shape {
         ensures value { result ≡ tree_size self.n self.levels }
         ensures bound { result ≤ 7241 }
     {
-        size_of(self, self.levels)
+        self.units().tree_size(self.levels)
     }
 
     /// How many values the trees of all units have.
@@ -158,32 +149,19 @@ impl Shape {
         ensures value { result ≡ entry_answer self.n self.levels unit level }
         ensures bound { IfOk result (λ entry. entry ≤ 152061) }
     {
-        if unit >= self.n || level < 1 || level > self.levels {
+        if unit >= self.n || !self.has_level(level) {
             return Err(PlaceFault::Absent);
         }
-        Ok(unit * self.tree_size() + size_of(self, level - 1))
+        Ok(unit * self.tree_size() + self.units().tree_size(level - 1))
     }
 }
 
-// How many values the first h levels of a tree have.
-fn size_of(shape: Shape, h: u32) -> u32
-    requires { h ≤ shape.levels }
-    ensures value { result ≡ tree_size shape.n h }
-    ensures bound { result ≤ 7241 }
-{
-    let mut size = 0;
-    for k in 0..h {
-        size += tabled_width(shape.n, k + 1);
-    }
-    size
-}
-
-// The sequence at a place, `depth` steps below the root.
+// The sequence at a place, `depth` steps below the root. That there is such a place is asked here as in `sequences`, where n goes up to 32.
 fn sequence_at(shape: Shape, depth: u32, place: u32) -> Sequence
     requires deep { depth < shape.levels }
     requires low { place < length (sequences shape.n shape.source depth) }
-    ensures level { result.level ≡ depth + 1 }
-    ensures units { units_of result ≡ reverse (slice_index_or (sequences shape.n shape.source depth) place []) }
+    ensures level { length result ≡ depth + 1 }
+    ensures units { result ≡ reverse (slice_index_or (sequences shape.n shape.source depth) place []) }
 {
     if depth == 0 {
         return Sequence {
@@ -192,14 +170,13 @@ fn sequence_at(shape: Shape, depth: u32, place: u32) -> Sequence
         };
     }
     let parent = sequence_at(shape, depth - 1, place / (shape.n - depth));
-    lengthened(parent, last_at(shape, depth, place))
+    lengthened(parent, last_at(shape.n, shape.source, depth, place))
 }
 
 // A sequence with one unit more at its end.
 fn lengthened(sequence: Sequence, last: u32) -> Sequence
-    requires { sequence.level < 4 }
-    ensures level { result.level ≡ sequence.level + 1 }
-    ensures units { units_of result ≡ units_of sequence ++ last ∷ [] }
+    requires { length sequence < 4 }
+    ensures { result ≡ sequence ++ last ∷ [] }
 {
     let mut units = sequence.units;
     units[sequence.level as usize] = last;

@@ -2,7 +2,9 @@
 use Rattle.std.proofs.Common.{◌≡◌, ℕ, zero, suc, ◌+◌, ◌-◌, ◌*◌, ◌%◌, ◌<◌, ◌≤◌, Bool, true, false, ◌&&◌, ◌||◌, eqb, ltb, leb, ◌⊎◌, List, [], ◌∷◌, ◌++◌, replicate, Some, None, sum, sym, refl, ap, ◌∙◌, ap₂, ⊎_elim, mod-eq_of_lt, arith}
 use native.Mathlib.Nat.{mod_self, add-mod_right, mul-mod_left}
 use Rattle.std.specs.List.{slice_get}
-use Rattle.std.proofs.lemmas.List.Sums.{sum_by-cons}
+use Rattle.std.proofs.Math.Bool.{or_comm, or_assoc}
+use Rattle.std.proofs.lemmas.List.Folds.{sum_by-replicate}
+use Rattle.std.proofs.lemmas.List.Sums.{sum_by-append}
 use Rattle.std.proofs.lemmas.Nat.{mul-le, le-div}
 use Rattle.std.proofs.lemmas.Bool.{cases_Bool, cases_order, cond-true, cond-false, ne_eqb, eq-eqb, eqb-true, eqb-false, lt-ltb, le-ltb, le-leb, and_left, and_right, and_from, or_left, cases_lt}
 use Rattle.std.proofs.lemmas.Bool.Decides.{nat_tests}
@@ -12,10 +14,6 @@ use Rattle.plans.specs.Schedules.{full_blocks, short_block, blocks, rounds, bloc
 -- k ends one of x blocks of b rounds that follow on round r
 abbrev pub ends_full : ℕ → ℕ → ℕ → ℕ → Bool
 ends_full b x r k = ltb r k && (leb k (r + x * b) && eqb ((k - r) % b) 0)
-
-or_assoc : (a b c : Bool) → (a || (b || c)) ≡ ((a || b) || c)
-or_assoc true b c = refl
-or_assoc false b c = refl
 
 -- one block more at the front
 ends_more : (b x r k : ℕ) → 0 < b → (eqb k (r + b) || ends_full b x (r + b) k) ≡ ends_full b (suc x) r k
@@ -59,7 +57,7 @@ ends_full_lem b zero r k rest pos =
 ends_full_lem b (suc x) r k rest pos =
     let e : r + b + x * b ≡ r + suc x * b = omega arith in
     ap (λ p. eqb k (r + b) || p) (ends_full_lem b x (r + b) k rest pos)
-    ∙ (or_assoc (eqb k (r + b)) (ends_full b x (r + b) k) _
+    ∙ (sym (or_assoc (eqb k (r + b)) (ends_full b x (r + b) k) _)
     ∙ ap₂ (λ p q. p || some (λ end. eqb k end) (block_ends q rest)) (ends_more b x r k pos) e)
 
 module _ (t b : ℕ) (least : 2 ≤ b) (low : b ≤ t) where
@@ -67,8 +65,7 @@ module _ (t b : ℕ) (least : 2 ≤ b) (low : b ≤ t) where
   parted = cond-false (eqb b 0) _ _ (ne_eqb b 0 (λ e. omega arith))
 
   sum_full : (x : ℕ) (rest : List ℕ) → sum (replicate x b ++ rest) ≡ x * b + sum rest
-  sum_full zero rest = omega arith
-  sum_full (suc x) rest = sum_by-cons (λ y. y) b (replicate x b ++ rest) ∙ omega (arith, sum_full x rest)
+  sum_full x rest = sum_by-append (λ y. y) (replicate x b) rest ∙ ap (λ k. k + sum rest) (sum_by-replicate (λ y. y) x b)
 
   rounds_full : rounds t b ≡ 1 + (full_blocks t b * b + sum (short_block t b))
   rounds_full = ap (λ bs. 1 + sum bs) parted ∙ ap (λ k. 1 + k) (sum_full (full_blocks t b) (short_block t b))
@@ -84,25 +81,13 @@ module _ (t b : ℕ) (least : 2 ≤ b) (low : b ≤ t) where
       (λ z. let short : short_block t b ≡ [] = cond-true (eqb ((t - 1) % (b - 1)) 0) _ _ z in
       let all : rounds t b ≡ 1 + x * b = rounds_full ∙ (ap (λ bs. 1 + (x * b + sum bs)) short ∙ omega arith) in
       ap (λ bs. ends_full b x 1 k || some (λ end. eqb k end) (block_ends (1 + x * b) bs)) short
-      ∙ (or_swap (ends_full b x 1 k) false ∙ (last x k one ∙ ap (λ r. eqb k r || ends_full b x 1 k) (sym all))))
+      ∙ (or_comm (ends_full b x 1 k) false ∙ (last x k one ∙ ap (λ r. eqb k r || ends_full b x 1 k) (sym all))))
       (λ z. let short : short_block t b ≡ (t - x * (b - 1)) ∷ [] = cond-false (eqb ((t - 1) % (b - 1)) 0) _ _ z in
       let all : rounds t b ≡ 1 + x * b + (t - x * (b - 1)) = rounds_full ∙ (ap (λ bs. 1 + (x * b + sum bs)) short ∙ omega arith) in
       ap (λ bs. ends_full b x 1 k || some (λ end. eqb k end) (block_ends (1 + x * b) bs)) short
-      ∙ (ap (λ r. ends_full b x 1 k || (eqb k r || false)) (sym all) ∙ or_swap_last (ends_full b x 1 k) (eqb k (rounds t b))))
+      ∙ (ap (λ r. ends_full b x 1 k || (eqb k r || false)) (sym all) ∙ (or_comm (ends_full b x 1 k) (eqb k (rounds t b) || false) ∙ ap (λ last. last || ends_full b x 1 k) (or_comm (eqb k (rounds t b)) false))))
       (cases_Bool (eqb ((t - 1) % (b - 1)) 0)))
     where
-      or_swap : (p q : Bool) → (p || q) ≡ (q || p)
-      or_swap true true = refl
-      or_swap true false = refl
-      or_swap false true = refl
-      or_swap false false = refl
-
-      or_swap_last : (p q : Bool) → (p || (q || false)) ≡ (q || p)
-      or_swap_last true true = refl
-      or_swap_last true false = refl
-      or_swap_last false true = refl
-      or_swap_last false false = refl
-
       -- the end of the last full block is the end of a full block
       last : (x k : ℕ) → 1 ≤ x → ends_full b x 1 k ≡ (eqb k (1 + x * b) || ends_full b x 1 k)
       last x k one = ⊎_elim

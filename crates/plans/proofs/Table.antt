@@ -1,8 +1,8 @@
 -- An entry of the table of rounds.
 use Rattle.std.proofs.Common.{◌≡◌, ℕ, ◌+◌, ◌-◌, ◌≤◌, true, ◌||◌, eqb, List, [], get_or, sym, ap, ◌∙◌, ap₂, arith}
 use Rattle.std.proofs.lemmas.Bool.{eqb-true, le-ltb}
-use Rattle.places.specs.Tables.{ruled}
-use Rattle.places.proofs.Table.{entry}
+use Rattle.sequences.specs.Tables.{ruled}
+use Rattle.sequences.proofs.Table.{entry}
 use Rattle.plans.specs.Schedules.{rounds}
 use Rattle.plans.specs.Tables.{is_rounds}
 

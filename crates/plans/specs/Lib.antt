@@ -3,3 +3,4 @@ pub mod Schedules
 pub mod Tables
 pub mod Faults
 pub mod Answers
+pub mod Texts

@@ -3,4 +3,5 @@
 
 pub mod fault;
 pub mod plan;
+mod printing;
 mod schedules;

@@ -2,10 +2,9 @@ ghost use Rattle.std.specs.Prelude.{◌≡◌, ◌+◌, ◌-◌, ◌%◌, ◌≤
 ghost use Rattle.std.specs.List.{slice_get};
 ghost use Rattle.std.specs.Result.{result_map_both};
 ghost use Rattle.plans.specs.Answers.{plan_parts, plan_answer};
-ghost use Rattle.plans.specs.Faults.{fault_number};
 ghost use Rattle.places.specs.Answers.{shape_parts};
 ghost use Rattle.plans.specs.Schedules.{height, full_blocks, blocks, rounds, due_after};
-ghost use Rattle.places.specs.Tables.{ruled};
+ghost use Rattle.sequences.specs.Tables.{ruled};
 ghost use Rattle.plans.specs.Tables.{is_rounds};
 ghost use Rattle.plans.specs.Numbers.{tolerance_wrong};
 
@@ -13,20 +12,6 @@ use crate::fault::PlanFault;
 use crate::plan::Plan;
 use places::shape::Shape;
 use places::units_wrong;
-
-impl PlanFault {
-    /// The number of the refusal.
-    pub fn number(&self) -> u32
-        ensures { result ≡ fault_number self.now }
-    {
-        match self {
-            PlanFault::Units => 1,
-            PlanFault::Gear => 2,
-            PlanFault::Tolerance => 3,
-            PlanFault::Source => 4,
-        }
-    }
-}
 
 impl Plan {
     /// A plan that a rack can be opened with; refused by 1 (n), 2 (gear), 3 (t) or 4 (source), the smallest that holds.
@@ -95,7 +80,7 @@ impl Plan {
         ensures { result ≡ slice_get (blocks self.t self.gear) index }
     {
         if self.gear == 0 {
-            return if index == 0 { Some(self.t) } else { None };
+            return (index == 0).then_some(self.t);
         }
         let full = self.full_blocks();
         if index < full {
@@ -126,9 +111,9 @@ fn tolerance_wrong(n: u32, t: u32, gear: u32) -> bool
     ensures { result ≡ tolerance_wrong n t gear }
 {
     if gear == 0 {
-        t < 1 || t > 3 || n < 3 * t + 1
+        !(1..=3).contains(&t) || n < 3 * t + 1
     } else {
-        t < gear || t > 5 || n < 4 * t + 1
+        !(gear..=5).contains(&t) || n < 4 * t + 1
     }
 }
 
@@ -145,6 +130,7 @@ fn ends_full_block(b: u32, full: u32, round: u32) -> bool
 const ROUNDS: [[u32; 4]; 2] = [[3, 5, 7, 9], [0, 4, 6, 7]];
 
 // An entry of a table that follows the rule of the rounds.
+// The widths are read in the same way. One function for both would need a trait that holds the rule, with a type and an `impl` for each table.
 fn tabled_rounds(rows: &[[u32; 4]], t: u32, gear: u32) -> u32
     requires rule { ruled is_rounds 2 4 rows.now ≡ true }
     requires least { 2 ≤ gear }

@@ -1,10 +1,12 @@
 -- How large levels and trees are.
-use Rattle.std.proofs.Common.{◌≡◌, ℕ, zero, suc, ◌+◌, ◌-◌, ◌*◌, ◌<◌, ◌≤◌, length, refl, ap, ◌∙◌, arith}
+use Rattle.std.proofs.Common.{◌≡◌, ℕ, zero, suc, ◌+◌, ◌-◌, ◌*◌, ◌<◌, ◌≤◌, map, length, sum, sym, refl, ap, ◌∙◌, add-one, arith}
+use Rattle.std.specs.List.{range_with_len}
+use Rattle.std.proofs.lemmas.List.FromFn.{sum_by-map-range_with_len_more}
 use Rattle.std.proofs.lemmas.Nat.{mul-le}
 use Rattle.masks.specs.Lists.{In, units}
 use Rattle.sequences.specs.Sequences.{sequences}
 use Rattle.sequences.specs.Sizes.{tree_size}
-use Rattle.sequences.specs.Widths.{falling}
+use Rattle.sequences.specs.Widths.{falling, width}
 use Rattle.sequences.proofs.Index.{fans}
 
 pub wide : (n s d : ℕ) → In s (units n) → length (sequences n s d) ≡ falling n d
@@ -48,12 +50,10 @@ largest (suc (suc (suc (suc (suc h))))) l = absurd (omega arith)
 pub size_most : (n h : ℕ) → n ≤ 21 → h ≤ 4 → tree_size n h ≤ 7241
 size_most n h l k = omega (arith, size_more n 21 h l, largest h k)
 
-pub memory_most : (n h : ℕ) → n ≤ 21 → h ≤ 4 → n * tree_size n h ≤ 152061
-memory_most n h l k = omega (arith, mul-le n (tree_size n h) 21 7241 l (size_most n h l k))
-
--- one level more
-pub size_next : (n k size wide : ℕ) → size ≡ tree_size n k → wide ≡ falling n (k + 1 - 1) → size + wide ≡ tree_size n (k + 1)
-size_next n k size wide e f =
-    let g : k + 1 - 1 ≡ k = omega arith in
-    let h : suc k ≡ k + 1 = omega arith in
-    omega (arith, ap (falling n) g, ap (tree_size n) h)
+-- a tree is its levels together
+pub size_sum : (n h : ℕ) → sum (map (width n) (range_with_len 1 h)) ≡ tree_size n h
+size_sum n zero = refl
+size_sum n (suc h) =
+    let e : h + 1 - 1 ≡ h = omega arith in
+    ap (λ k. sum (map (width n) (range_with_len 1 k))) (sym (add-one h))
+    ∙ omega (arith, sum_by-map-range_with_len_more (λ x. x) (width n) 1 h (h + 1) (omega arith), size_sum n h, ap (falling n) e)

@@ -1,5 +1,5 @@
 -- The children of a sequence, in the order of their places.
-use Rattle.std.proofs.Common.{◌≡◌, ℕ, suc, ◌+◌, ◌-◌, ◌*◌, ◌/◌, ◌%◌, ◌^◌, ◌<◌, ◌≤◌, false, not, ltb, [], length, get_or, sym, refl, ap, ◌∙◌, subst, ⊎_elim, mul-le-mul_right, arith}
+use Rattle.std.proofs.Common.{◌≡◌, ℕ, suc, ◌+◌, ◌-◌, ◌*◌, ◌/◌, ◌%◌, ◌^◌, ◌<◌, ◌≤◌, false, not, ltb, [], length, get_or, sym, ap, ◌∙◌, subst, ⊎_elim, mul-le-mul_right, arith}
 use lib.Bits.{bit_or}
 use Rattle.std.proofs.lemmas.Nat.{div-mul-add, mod-mul-add}
 use Rattle.std.proofs.lemmas.Bool.{not_from_false, cases_lt, cond-true, lt-ltb}
@@ -11,6 +11,7 @@ use Rattle.sequences.specs.Sequences.{sequences, last_of}
 use Rattle.sequences.specs.Units.{Shows, free}
 use Rattle.sequences.specs.Walks.{Under, On}
 use Rattle.sequences.specs.declared.walk.Walk.{Walk}
+use Rattle.sequences.proofs.Bounds.{level_most}
 use Rattle.sequences.proofs.Free.{free_more, free_rank, free_at, free_absent, place_shows, place_splits}
 use Rattle.sequences.proofs.Index.{rank, fans, children_count}
 
@@ -61,9 +62,8 @@ module _ (n s : ℕ) (is : In s (units n)) (k parent above : ℕ) (pos : 0 < k) 
 
     -- a walk that has come to it
     pub arrived : (units left : ℕ) → x < 32 → units ≡ joined_by above x → i + 1 + left ≡ length (sequences n s k)
-        → On n s k i (record { units = units; last = x; place = i; left = left; parent = parent; above = above })
+        → On n s k i left units x parent above
     arrived units left fits eu rest = record {
-      here = refl;
       rest = rest;
       shows = seat_shows units (eu ∙ cond-true (ltb x 32) _ _ (lt-ltb x 32 fits));
       ends = seat_ends;
@@ -71,26 +71,48 @@ module _ (n s : ℕ) (is : In s (units n)) (k parent above : ℕ) (pos : 0 < k) 
     }
 
 -- a walk that has places left is not at the root, and its place lies under its parent's
-module _ (n s d : ℕ) (is : In s (units n)) (walk : Walk) (on : On n s d walk.place walk) (more : walk.left ≡ 0 → ⊥) where
+module _ (walk : Walk) (more : walk.left ≡ 0 → ⊥) where
+  abbrev pub n : ℕ
+  n = walk.level.units.n
+
+  abbrev pub s : ℕ
+  s = walk.level.source
+
+  abbrev pub d : ℕ
+  d = walk.level.depth
+
+  is : In s (units n)
+  is = unit_in n s walk.level.within
+
   pub off_root : 0 < d
-  off_root = ⊎_elim (λ (p : 0 < d). p) (λ (z : d ≤ 0). let e : d ≡ 0 = omega arith in absurd (more (omega (arith, on.rest, ap (λ k. length (sequences n s k)) e)))) (cases_lt 0 d)
+  off_root = ⊎_elim (λ (p : 0 < d). p) (λ (z : d ≤ 0). let e : d ≡ 0 = omega arith in absurd (more (omega (arith, walk.on.rest, ap (λ k. length (sequences n s k)) e)))) (cases_lt 0 d)
 
   pub below : Under n s d walk.place walk.parent walk.above walk.last
-  below = on.under off_root
+  below = walk.on.under off_root
+
+  pub few : walk.place + 1 + walk.left ≤ 6840
+  few = omega (arith, walk.on.rest, level_most n s d is walk.level.units.most walk.level.deep)
+
+  pub few_parents : walk.parent < 6840
+  few_parents = omega (arith, below.low, level_most n s (d - 1) is walk.level.units.most (omega (arith, walk.level.deep)))
 
   -- the unit after the last one, among those that the parent leaves out
   module _ (next : ℕ) (rank : length (free walk.above next) ≡ length (free walk.above (walk.last + 1))) where
-    pub next_rank : walk.place + 1 ≡ walk.parent * (n - d) + length (free walk.above next)
+    next_rank : walk.place + 1 ≡ walk.parent * (n - d) + length (free walk.above next)
     next_rank = omega (arith, rank, seat_more n s is d walk.parent walk.above off_root below.low below.shows walk.place walk.last below.unit below.out below.rank)
 
-    module _ (none : next ≡ n) where
-      pub parent_done : walk.place + 1 ≡ (walk.parent + 1) * (n - d)
-      parent_done = omega (arith, next_rank, ap (λ x. length (free walk.above x)) none, fan_is n s is d walk.parent walk.above off_root below.low below.shows)
+    pub moved : (lx : next < n) → holds walk.above next ≡ false → (m : ℕ) → m ≡ joined_by walk.above next → On n s d (walk.place + 1) (walk.left - 1) m next walk.parent walk.above
+    moved lx out m e = arrived n s is d walk.parent walk.above off_root below.low below.shows (walk.place + 1) next lx out next_rank m (walk.left - 1) (omega (arith, walk.level.units.most)) e (omega (arith, walk.on.rest, more))
 
-      pub next_parent : walk.parent + 1 < length (sequences n s (d - 1))
-      next_parent = ⊎_elim (λ (l : walk.parent + 1 < length (sequences n s (d - 1))). l)
-          (λ (g : length (sequences n s (d - 1)) ≤ walk.parent + 1). absurd (omega (arith, mul-le-mul_right (n - d) g, fanned n s is d off_root, parent_done, on.rest, more_is)))
-          (cases_lt (walk.parent + 1) (length (sequences n s (d - 1))))
-        where
-          more_is : 0 < walk.left
-          more_is = ⊎_elim (λ (p : 0 < walk.left). p) (λ (z : walk.left ≤ 0). absurd (more (omega arith))) (cases_lt 0 walk.left)
+  -- the parent leaves out none after the last one
+  module _ (none : length (free walk.above n) ≡ length (free walk.above (walk.last + 1))) where
+    pub parent_done : walk.place + 1 ≡ (walk.parent + 1) * (n - d)
+    parent_done = omega (arith, next_rank n none, fan_is n s is d walk.parent walk.above off_root below.low below.shows)
+
+    pub next_parent : walk.parent + 1 < length (sequences n s (d - 1))
+    next_parent = ⊎_elim (λ (l : walk.parent + 1 < length (sequences n s (d - 1))). l)
+        (λ (g : length (sequences n s (d - 1)) ≤ walk.parent + 1). absurd (omega (arith, mul-le-mul_right (n - d) g, fanned n s is d off_root, parent_done, walk.on.rest, more_is)))
+        (cases_lt (walk.parent + 1) (length (sequences n s (d - 1))))
+      where
+        more_is : 0 < walk.left
+        more_is = ⊎_elim (λ (p : 0 < walk.left). p) (λ (z : walk.left ≤ 0). absurd (more (omega arith))) (cases_lt 0 walk.left)

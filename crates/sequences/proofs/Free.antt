@@ -1,38 +1,32 @@
 -- The units that a mask leaves out, and the mask of a sequence.
-use Rattle.std.proofs.Common.{◌≡◌, ℕ, zero, suc, ◌+◌, ◌-◌, ◌*◌, ◌/◌, ◌%◌, ◌^◌, ◌<◌, ◌≤◌, Bool, true, false, cond, not, ◌||◌, eqb, ltb, List, [], ◌∷◌, length, get_or, count_by, filter, sym, refl, ap, ◌∙◌, subst, ap₂, add-one, one-add, arith, pow_pos}
+use Rattle.std.proofs.Common.{◌≡◌, ℕ, zero, suc, ◌+◌, ◌-◌, ◌*◌, ◌/◌, ◌%◌, ◌^◌, ◌<◌, ◌≤◌, Bool, true, false, cond, not, ◌||◌, eqb, ltb, List, [], ◌∷◌, length, get_or, MatchOption, Option, None, Some, count_by, filter, sym, refl, ap, ◌∙◌, subst, ap₂, add-one, one-add, ⊎_elim, arith, pow_pos}
 use lib.Bits.{bit_or}
 use lib.Count.{ones, ones_step, ones_cat, ones-le}
 use Rattle.std.specs.List.{range_with_len}
-use Rattle.std.proofs.lemmas.List.{length-append}
-use Rattle.std.proofs.lemmas.List.Elements.{filter-append}
-use Rattle.std.proofs.lemmas.List.Sums.{length-filter}
+use Rattle.std.specs.Option.{IsSome}
+use Rattle.std.proofs.Math.Bool.{or_comm}
+use Rattle.std.proofs.Math.Path.{fun_ext}
+use Rattle.std.proofs.lemmas.List.Sums.{length-filter, count_by-le-length}
 use Rattle.std.proofs.lemmas.Nat.{mod-pow-add, mod_below}
 use Rattle.std.proofs.lemmas.List.FromFn.{length-range_with_len}
-use Rattle.std.proofs.lemmas.Bool.{cond_both, lt-ltb, not_from_false}
+use Rattle.std.proofs.lemmas.Bool.{cases_lt, lt-ltb, not_from_false}
 use Rattle.std.proofs.lemmas.Bool.Decides.{nat_tests}
 use Rattle.masks.specs.Lists.{In, units}
 use Rattle.masks.specs.Masks.{holds}
 use Rattle.masks.proofs.Bits.{one_bit, bit_joined}
-use Rattle.masks.proofs.Counting.{num, count_cons, count_le, count_all, counting_more}
+use Rattle.masks.proofs.Counting.{num, count_cons, count_more}
 use Rattle.masks.proofs.Members.{in_kept, kept_in, counting_in, in_counting, get_or_in}
 use Rattle.sequences.specs.Sequences.{among, absent, sequences}
 use Rattle.sequences.specs.Units.{Shows, free}
 use Rattle.sequences.proofs.Index.{none_below, rank, level_digit}
 
-kept_one : (q : ℕ → Bool) (x : ℕ) → length (filter q (x ∷ [])) ≡ num (q x)
-kept_one q x = cond_both (q x) (x ∷ []) [] (λ l. length l ≡ num (q x)) (λ e. sym (ap num e)) (λ e. sym (ap num e))
-
 pub free_more : (m x : ℕ) → length (free m (x + 1)) ≡ length (free m x) + num (not (holds m x))
 free_more m x =
     let q = λ (y : ℕ). not (holds m y) in
-    let z : 0 + x ≡ x = omega arith in
-    ap (λ l. length (filter q l)) (counting_more 0 x)
-    ∙ (ap length (filter-append q (units x) ((0 + x) ∷ []))
-    ∙ (length-append (filter q (units x)) (filter q ((0 + x) ∷ []))
-    ∙ (ap (λ k. length (free m x) + k) (kept_one q (0 + x)) ∙ ap (λ y. length (free m x) + num (q y)) z)))
+    omega (arith, length-filter q (units (x + 1)), length-filter q (units x), count_more q x)
 
 pub free_few : (m x : ℕ) → length (free m x) ≤ x
-free_few m x = omega (arith, length-filter (λ y. not (holds m y)) (units x), count_le (λ y. not (holds m y)) (λ _. true) (units x) (λ _ _ _. refl), count_all (units x), length-range_with_len 0 x)
+free_few m x = omega (arith, length-filter (λ y. not (holds m y)) (units x), count_by-le-length (λ y. not (holds m y)) (units x), length-range_with_len 0 x)
 
 -- of what passes, as much is below a + m as is kept of the first m
 rank_low : (q : ℕ → Bool) (a n m : ℕ) → m ≤ n → count_by (λ u. ltb u (a + m)) (filter q (range_with_len a n)) ≡ length (filter q (range_with_len a m))
@@ -60,27 +54,17 @@ free_at m n x l out =
     let r = rank q 0 n x 0 (kept_in q (units n) x (counting_in 0 n x (omega arith) (omega arith)) (not_from_false (holds m x) out)) in
     sym (ap (λ k. get_or (free m n) k 0) (sym (free_rank m n x (omega arith))) ∙ r.1)
 
-kept_same : (p q : ℕ → Bool) (xs : List ℕ) → ((x : ℕ) → p x ≡ q x) → filter p xs ≡ filter q xs
-kept_same p q [] h = refl
-kept_same p q (x ∷ xs) h = let e = h x in let r = kept_same p q xs h in cc
-
 pub free_absent : (m n : ℕ) (α : List ℕ) → Shows m α → free m n ≡ absent n α
-free_absent m n α shows = kept_same (λ x. not (holds m x)) (λ x. not (among α x)) (units n) (λ x. ap not (shows x))
+free_absent m n α shows = ap (λ test. filter test (units n)) (fun_ext (λ x. ap not (shows x)))
 
 pub root_shows : (m s : ℕ) → m ≡ 2 ^ s → Shows m (s ∷ [])
 root_shows m s e u = ap (λ x. holds x u) e ∙ (one_bit s u ∙ grind (arith, nat_tests))
-
-or_swap : (a b : Bool) → (a || b) ≡ (b || a)
-or_swap true true = refl
-or_swap true false = refl
-or_swap false true = refl
-or_swap false false = refl
 
 eqb_swap : (a b : ℕ) → eqb a b ≡ eqb b a
 eqb_swap a b = grind (arith, nat_tests)
 
 pub child_shows : (m w : ℕ) (β : List ℕ) → Shows m β → Shows (bit_or m (2 ^ w)) (w ∷ β)
-child_shows m w β shows u = bit_joined m w u ∙ (ap₂ (λ a b. a || b) (shows u) (eqb_swap w u) ∙ or_swap (among β u) (eqb u w))
+child_shows m w β shows u = bit_joined m w u ∙ (ap₂ (λ a b. a || b) (shows u) (eqb_swap w u) ∙ or_comm (among β u) (eqb u w))
 
 module _ (n s : ℕ) (is : In s (units n)) where
   -- the parent's place, and the number of the child
@@ -96,19 +80,30 @@ module _ (n s : ℕ) (is : In s (units n)) where
       let sh : Shows m β = subst (λ j. Shows m (get_or (sequences n s j) (i / (n - suc k)) [])) e shows in
       omega (arith, (level_digit n s is k i l).1, ap length (free_absent m n β sh))
 
-pub free_all : (m n x seen j : ℕ) → j < length (free m n) → x ≡ n → seen ≡ length (free m x) → seen ≤ j → ⊥
-free_all m n x seen j l e is le = omega (arith, ap (λ y. length (free m y)) e)
+-- where the mask holds all from x up to y, it leaves out as many below either
+free_same : (m x y : ℕ) → x ≤ y → ((k : ℕ) → x ≤ k → k < y → holds m k ≡ true) → length (free m y) ≡ length (free m x)
+free_same m x zero l all = let e : 0 ≡ x = omega arith in ap (λ k. length (free m k)) e
+free_same m x (suc y) l all = ⊎_elim
+    (λ (p : y < x). let e : suc y ≡ x = omega arith in ap (λ k. length (free m k)) e)
+    (λ (p : x ≤ y). omega (arith, ap (λ k. length (free m k)) (add-one y), free_more m y, ap (λ b. num (not b)) (all y p (omega arith)), free_same m x y p (λ k a b. all k a (omega arith))))
+    (cases_lt y x)
+
+-- the first unit from x on that the mask leaves out, by the first one that passes the test
+pub first_absent : (m n x : ℕ) (found : Option ℕ) → x ≤ n
+    → MatchOption found ((k : ℕ) → x ≤ k → k < n → holds m k ≡ true) (λ y. (x ≤ y) × (y < n) × (holds m y ≡ false) × ((k : ℕ) → x ≤ k → k < y → holds m k ≡ true))
+    → MatchOption found (length (free m n) ≡ length (free m x)) (λ y. (y < n) × (holds m y ≡ false) × (length (free m y) ≡ length (free m x)))
+first_absent m n x None l all = free_same m x n l all
+first_absent m n x (Some y) l first = (first.1, first.2, free_same m x y first.0 first.3)
+
+pub is_there : (found : Option ℕ) (A : Type 0) (B : ℕ → Type 0) → MatchOption found A B → (A → ⊥) → IsSome found
+is_there None A B none never = absurd (never none)
+is_there (Some x) A B some never = refl
 
 pub free_below : (m n j : ℕ) → j < length (free m n) → get_or (free m n) j 0 < n
 free_below m n j l =
     let q = λ (y : ℕ). not (holds m y) in
     let i = in_counting 0 n (get_or (free m n) j 0) (in_kept q (units n) (get_or (free m n) j 0) (get_or_in (free m n) j 0 l)).0 in
     omega arith
-
-pub root_place : (n s k i r : ℕ) → k ≡ 0 → i < length (sequences n s k) → r ≡ 2 ^ s → Shows r (get_or (sequences n s k) i [])
-root_place n s zero zero r z l e = root_shows r s e
-root_place n s zero (suc i) r z l e = absurd (omega arith)
-root_place n s (suc k) i r z l e = absurd (omega arith)
 
 -- the sequence at a place ends in the unit of its number among those that its parent leaves out
 pub place_splits : (n s : ℕ) (is : In s (units n)) (k i m w : ℕ) → 0 < k → i < length (sequences n s k) → Shows m (get_or (sequences n s (k - 1)) (i / (n - k)) [])

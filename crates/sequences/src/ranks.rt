@@ -1,4 +1,5 @@
 ghost use Rattle.std.specs.Prelude.{◌≡◌, ◌-◌, ◌/◌, ◌<◌, ◌≤◌, [], ◌∷◌, length, slice_index, slice_index_or};
+ghost use Rattle.std.specs.List.{slice_get};
 ghost use Rattle.sequences.specs.Sequences.{sequences};
 ghost use Rattle.sequences.specs.Units.{Shows, free};
 
@@ -12,24 +13,24 @@ pub fn absent_below(mask: u32, w: u32) -> u32
     w - (mask & ((1 << w) - 1)).count_ones()
 }
 
+// The j-th lowest unit below n, from 0, that the mask leaves out, if it leaves out as many.
+// Mask and n stand apart here and in the walk: the mask is another one at each call.
+fn absent_at(mask: u32, n: u32, j: u32) -> Option<u32>
+    ensures { result ≡ slice_get (free mask n) j }
+{
+    (0..n).filter(|&x| !has(mask, x)).nth(j as usize)
+}
+
 /// The j-th lowest unit below n, from 0, that the mask leaves out.
 pub fn nth_absent(mask: u32, n: u32, j: u32) -> u32
     requires { j < length (free mask n) }
     ensures { result ≡ slice_index (free mask n) j }
 {
-    let mut seen = 0;
-    for x in 0..n {
-        if !has(mask, x) {
-            if seen == j {
-                return x;
-            }
-            seen += 1;
-        }
-    }
-    0
+    absent_at(mask, n, j).unwrap()
 }
 
 /// The mask of the units of the sequence at a place, `depth` steps below the root.
+// The numbers are plain, since a `Level` holds n to 21 and this answers up to 32.
 pub fn units_at(n: u32, source: u32, depth: u32, place: u32) -> u32
     requires most { n ≤ 32 }
     requires within { source < n }
@@ -48,6 +49,7 @@ pub fn units_at(n: u32, source: u32, depth: u32, place: u32) -> u32
 }
 
 /// The last unit of the sequence at a place, `depth` steps below the root.
+// The numbers are plain for the same reason.
 pub fn last_at(n: u32, source: u32, depth: u32, place: u32) -> u32
     requires below { 0 < depth }
     requires most { n ≤ 32 }

@@ -3,6 +3,8 @@ ghost use Rattle.sequences.specs.Sizes.{tree_size};
 ghost use Rattle.sequences.specs.Tables.{ruled, is_width};
 ghost use Rattle.sequences.specs.Widths.{width};
 
+use crate::units::Units;
+
 // The widths of levels 1 to 4, a row for each n from 4 to 21.
 const WIDTHS: [[u32; 4]; 18] = [
     [1, 3, 6, 6],
@@ -25,41 +27,34 @@ const WIDTHS: [[u32; 4]; 18] = [
     [1, 20, 380, 6840],
 ];
 
-// An entry of a table that follows the rule of the widths.
-fn entry(rows: &[[u32; 4]], n: u32, level: u32) -> u32
+// An entry of a table that follows the rule of the widths. The rounds of `plans` are read in the same way:
+// one function for both would need a trait that holds the rule, with a type and an `impl` for each table.
+fn entry(rows: &[[u32; 4]], units: Units, level: u32) -> u32
     requires rule { ruled is_width 18 4 rows.now ≡ true }
-    requires least { 4 ≤ n }
-    requires most { n ≤ 21 }
     requires low { 1 ≤ level }
     requires high { level ≤ 4 }
-    ensures { result ≡ width n level }
+    ensures { result ≡ width units.n level }
 {
-    rows[(n - 4) as usize][(level - 1) as usize]
+    rows[(units.n - 4) as usize][(level - 1) as usize]
 }
 
-/// The width of a level that the table has.
-pub fn tabled_width(n: u32, level: u32) -> u32
-    requires least { 4 ≤ n }
-    requires most { n ≤ 21 }
-    requires low { 1 ≤ level }
-    requires high { level ≤ 4 }
-    ensures value { result ≡ width n level }
-    ensures bound { result ≤ 6840 }
-{
-    entry(&WIDTHS, n, level)
-}
-
-/// How many values the first h levels of a tree have.
-pub fn size_of(n: u32, h: u32) -> u32
-    requires least { 4 ≤ n }
-    requires most { n ≤ 21 }
-    requires few { h ≤ 4 }
-    ensures value { result ≡ tree_size n h }
-    ensures bound { result ≤ 7241 }
-{
-    let mut size = 0;
-    for k in 0..h {
-        size += tabled_width(n, k + 1);
+impl Units {
+    /// How many sequences a level has, of levels 1 to 4.
+    pub fn width(self, level: u32) -> u32
+        requires low { 1 ≤ level }
+        requires high { level ≤ 4 }
+        ensures value { result ≡ width self.n level }
+        ensures bound { result ≤ 6840 }
+    {
+        entry(&WIDTHS, self, level)
     }
-    size
+
+    /// How many values the first h levels of a tree have.
+    pub fn tree_size(self, h: u32) -> u32
+        requires { h ≤ 4 }
+        ensures value { result ≡ tree_size self.n h }
+        ensures bound { result ≤ 7241 }
+    {
+        (1..h + 1).map(|level| self.width(level)).sum()
+    }
 }

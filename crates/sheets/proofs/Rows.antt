@@ -1,57 +1,56 @@
 -- What each word adds to a row of words that are read by one rule.
-use Rattle.std.proofs.Common.{◌≡◌, ℕ, suc, ◌+◌, ◌-◌, ◌<◌, ◌≤◌, List, [], ◌∷◌, ◌++◌, length, drop, Ok, Err, Result, sym, refl, ap, ◌∙◌, append_assoc, append-nil, arith, Bor}
+use Rattle.std.proofs.Common.{◌≡◌, ℕ, suc, ◌+◌, ◌-◌, ◌<◌, List, [], ◌∷◌, ◌++◌, length, drop, get_or, length-drop, Ok, Result, sym, ap, ◌∙◌, arith, Bor}
 use lib.ListN.{length-map}
-use Rattle.std.proofs.lemmas.List.{drop_more, drop_all}
+use Rattle.std.specs.List.{enumerate_from}
+use Rattle.std.proofs.lemmas.Grind.{common_steps}
+use Rattle.std.proofs.lemmas.List.{drop_more, get_or-drop, get_or-map}
+use Rattle.std.proofs.lemmas.List.FromFn.{get_or-enumerate_from, length-enumerate_from}
 use Rattle.fields.specs.declared.forms.Misread.{Misread}
-use Rattle.fields.specs.Steps.{and_then, Present, at, each, from}
+use Rattle.fields.specs.Steps.{and_then, Present, at, from}
 use Rattle.words.specs.Words.{Word, texts}
-
--- x in front of what is read, and xs
-abbrev one : {A : Type 0} → Result A Misread → Result (List A) Misread → Result (List A) Misread
-one r rs = and_then r λ x. and_then rs λ rest. Ok (x ∷ rest)
-
-abbrev all : {A : Type 0} → List A → Result (List A) Misread → Result (List A) Misread
-all xs rs = and_then rs λ rest. Ok (xs ++ rest)
-
-all_none : {A : Type 0} (rs : Result (List A) Misread) → rs ≡ all [] rs
-all_none (Ok rest) = refl
-all_none (Err m) = refl
-
-all_one : {A : Type 0} (xs : List A) (x : A) (rs : Result (List A) Misread) → all xs (one (Ok x) rs) ≡ all (xs ++ (x ∷ [])) rs
-all_one xs x (Ok rest) = ap Ok (sym (append_assoc xs (x ∷ []) rest))
-all_one xs x (Err m) = refl
 
 -- xs is what the words from `first` on gave, before word i
 pub record Sofar {A : Type 0} (rule : ℕ → Word → Result A Misread) (ws : List (Bor Word)) (first : ℕ) (xs : List A) (i : ℕ) : Type 0 where
-  pub whole : from rule (texts ws) first ≡ all xs (from rule (texts ws) i)
+  pub whole : from rule (texts ws) first ≡ and_then (from rule (texts ws) i) λ rest. Ok (xs ++ rest)
 
-pub sofar_none : {A : Type 0} (rule : ℕ → Word → Result A Misread) (ws : List (Bor Word)) (first : ℕ) → Sofar rule ws first [] first
-sofar_none rule ws first = record { whole = all_none (from rule (texts ws) first) }
-
-module _ {A : Type 0} {rule : ℕ → Word → Result A Misread} {ws : List (Bor Word)} {first : ℕ} {xs : List A} {i : ℕ} (h : Sofar rule ws first xs i) where
-  -- word i is read before those after it
-  step : Present ws i → from rule (texts ws) first ≡ all xs (one (at rule (texts ws) i) (from rule (texts ws) (i + 1)))
-  step here =
-      let vs : List Word = texts ws in
-      let lt : i - 1 < length vs = simp length-map (omega arith) in
+pub sofar_more : {A : Type 0} {rule : ℕ → Word → Result A Misread} {ws : List (Bor Word)} {first : ℕ} {xs : List A} {i : ℕ} {x : A} → Sofar rule ws first xs i → Present ws i → Ok x ≡ at rule (texts ws) i → Sofar rule ws first (xs ++ (x ∷ [])) (i + 1)
+sofar_more {ws} {i} h here e = record {
+  whole =
+      let lt : i - 1 < length (texts ws) = simp length-map (omega arith) in
       let next : suc i ≡ i + 1 = omega arith in
       let past : i - 1 + 1 ≡ i + 1 - 1 = omega arith in
-      h.whole
-      ∙ ap (λ us. all xs (each rule i us)) (drop_more vs (i - 1) [] lt)
-      ∙ ap (λ j. all xs (one (at rule vs i) (each rule j (drop (i - 1 + 1) vs)))) next
-      ∙ ap (λ j. all xs (one (at rule vs i) (each rule (i + 1) (drop j vs)))) past
+      let more = drop_more (texts ws) (i - 1) [] lt in
+      let before = h.whole in
+      grind (arith, common_steps);
+}
 
-  pub sofar_more : {x : A} → Present ws i → Ok x ≡ at rule (texts ws) i → Sofar rule ws first (xs ++ (x ∷ [])) (i + 1)
-  sofar_more {x} here e = record {
-    whole =
-        let rest : Result (List A) Misread = from rule (texts ws) (i + 1) in
-        step here ∙ ap (λ r. all xs (one r rest)) (sym e) ∙ all_one xs x rest;
-  }
+-- the words from `first` on, each with its place, which is its number less one
+abbrev pub placed : List (Bor Word) → ℕ → List (ℕ × Bor Word)
+placed ws first = drop (first - 1) (enumerate_from 0 ws)
 
-  pub sofar_flaw : {m : Misread} → Present ws i → Err m ≡ at rule (texts ws) i → Err m ≡ from rule (texts ws) first
-  sofar_flaw here e = sym (step here ∙ ap (λ r. all xs (one r (from rule (texts ws) (i + 1)))) (sym e))
+length-placed : (ws : List (Bor Word)) (first : ℕ) → length (placed ws first) ≡ length ws - (first - 1)
+length-placed ws first =
+    length-drop (first - 1) (enumerate_from 0 ws)
+    ∙ ap (λ n. n - (first - 1)) (length-enumerate_from 0 ws)
 
-  pub sofar_all : length ws < i → Ok xs ≡ from rule (texts ws) first
-  sofar_all past =
-      let le : length (texts ws) ≤ i - 1 = simp length-map (omega arith) in
-      sym (h.whole ∙ ap (λ us. all xs (each rule i us)) (drop_all (i - 1) (texts ws) le) ∙ ap Ok (append-nil xs))
+module _ (ws : List (Bor Word)) (first n i : ℕ) (w : Bor Word) (some : 0 < first) (h : (n < length (placed ws first)) × ((i, w) ≡ get_or (placed ws first) n (i, w))) where
+  pub placed_present : Present ws (first + n)
+  placed_present =
+      let size = length-placed ws first in
+      let lt = h.0 in
+      (omega arith, omega arith)
+
+  pub placed_reads : {A : Type 0} (rule : ℕ → Word → Result A Misread) → rule (i + 1) w.now ≡ at rule (texts ws) (first + n)
+  placed_reads rule =
+      let here = placed_present in
+      let lt : first - 1 + n < length ws = omega arith in
+      let e : ◌≡◌ {A = ℕ × Bor Word} (i, w) (0 + (first - 1 + n), get_or ws (first - 1 + n) w) =
+      h.1
+      ∙ get_or-drop (first - 1) (enumerate_from 0 ws) n (i, w)
+      ∙ get_or-enumerate_from 0 ws (first - 1 + n) (i, w) lt in
+      let place : i ≡ 0 + (first - 1 + n) = ap (λ (p : ℕ × Bor Word). p.0) e in
+      let number : i + 1 ≡ first + n = omega arith in
+      let index : first - 1 + n ≡ first + n - 1 = omega arith in
+      ap (λ j. rule j w.now) number
+      ∙ ap (λ (p : ℕ × Bor Word). rule (first + n) p.1.now) e
+      ∙ ap (rule (first + n)) (sym (get_or-map (λ v. v.now) ws (first - 1 + n) w [] lt) ∙ ap (λ j. get_or (texts ws) j []) index)

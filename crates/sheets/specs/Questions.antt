@@ -1,16 +1,17 @@
 -- The questions, word by word. ws are all the words of the line: the first one names the question.
-use Rattle.std.specs.Prelude.{ℕ, ◌+◌, cond, List, Some, None, Ok, Err, Option, Result, slice_index}
+use Rattle.std.specs.Prelude.{ℕ, ◌+◌, cond, List, Ok, Err, Result, slice_index}
 use Rattle.fields.specs.declared.forms.KindName.TheVariants.{Right, Trigger}
-use Rattle.sheets.specs.declared.forms.Letter as letters
 use Rattle.fields.specs.declared.forms.Misread.{Misread}
 use Rattle.fields.specs.declared.forms.Misread.TheVariants.{UnknownWord}
+use Rattle.sheets.specs.declared.forms.RightName.{RightName}
 use Rattle.sheets.specs.declared.forms.RightName.TheVariants.{Withdrawn, Watch, Operate}
 use Rattle.sheets.specs.declared.forms.Topic.TheVariants.{Code, Value, Place, Sequence, Plan, Vote, Letter, Arrives}
 use Rattle.sheets.specs.Asked.{Asked}
 use Rattle.fields.specs.Names.{says, kind, slope, vote}
 use Rattle.sheets.specs.Topics.{topic}
-use Rattle.fields.specs.Numbers.{number, level}
+use Rattle.fields.specs.Numbers.{number, level, entry}
 use Rattle.fields.specs.Steps.{and_then, exactly, at_least, word, at, from}
+use Rattle.lines.specs.declared.script.Record.{Record}
 use Rattle.words.specs.Words.{Word}
 
 -- a line of a name and as many numbers
@@ -32,15 +33,18 @@ code_of ws =
     and_then (at number ws 3) λ c.
     Ok (Asked.code k c)
 
--- value right withdrawn, value right watch, value right operate M:
--- the third word says how many there are, so one that is no right is told before their number
-abbrev pub value_right_of : List Word → Result Asked Misread
-value_right_of ws =
+-- the right that word 3 names: it says how many words there are, so one that is no right is told before their number
+abbrev pub right_of : List Word → Result RightName Misread
+right_of ws =
     and_then (at_least 3 ws) λ _.
-    cond (says (word ws 3) "withdrawn") (and_then (exactly 3 ws) λ _. Ok (Asked.value_right Withdrawn))
-    (cond (says (word ws 3) "watch") (and_then (exactly 3 ws) λ _. Ok (Asked.value_right Watch))
-    (cond (says (word ws 3) "operate") (and_then (exactly 4 ws) λ _. and_then (at number ws 4) λ m. Ok (Asked.value_right (Operate m)))
+    cond (says (word ws 3) "withdrawn") (and_then (exactly 3 ws) λ _. Ok Withdrawn)
+    (cond (says (word ws 3) "watch") (and_then (exactly 3 ws) λ _. Ok Watch)
+    (cond (says (word ws 3) "operate") (and_then (exactly 4 ws) λ _. and_then (at number ws 4) λ m. Ok (Operate m))
     (Err (UnknownWord 3))))
+
+-- value right withdrawn, value right watch, value right operate M
+abbrev pub value_right_of : List Word → Result Asked Misread
+value_right_of ws = and_then (right_of ws) λ r. Ok (Asked.value_right r)
 
 -- value trigger CHANNEL SLOPE LEVEL
 abbrev pub value_trigger_of : List Word → Result Asked Misread
@@ -75,10 +79,6 @@ sequence_of ws = and_then (numbers 4 ws) λ xs. Ok (four Asked.sequence xs)
 abbrev pub plan_of : List Word → Result Asked Misread
 plan_of ws = and_then (numbers 4 ws) λ xs. Ok (four Asked.plan xs)
 
--- an entry of a vote is a code, or `-` for an open one
-abbrev pub entry : ℕ → Word → Result (Option ℕ) Misread
-entry i w = cond (says w "-") (Ok None) (and_then (number i w) λ c. Ok (Some c))
-
 -- vote KIND VOTE T E1 E2 ..: there may be no entry
 abbrev pub vote_of : List Word → Result Asked Misread
 vote_of ws =
@@ -90,8 +90,10 @@ vote_of ws =
     Ok (Asked.vote k v t es)
 
 -- .. ROUND FROM TO PLACE CODE
-abbrev pub letter_of : List Word → Result letters.Letter Misread
-letter_of ws = and_then (numbers 5 ws) λ xs. Ok (five (λ r f t p c. record { round = r; from = f; to = t; place = p; code = c }) xs)
+abbrev pub letter_of : List Word → Result Record Misread
+letter_of ws =
+    and_then (numbers 5 ws) λ xs.
+    Ok (five (λ r f t p c. record { way = record { round = r; from = f; to = t; place = p }; code = c }) xs)
 
 -- the first word names the question
 abbrev pub question_of : List Word → Result Asked Misread
@@ -105,5 +107,5 @@ question_of ws =
       | Plan ↦ plan_of ws
       | Vote ↦ vote_of ws
       | Letter ↦ and_then (letter_of ws) λ l. Ok (Asked.add_letter l)
-      | Arrives ↦ and_then (letter_of ws) λ l. Ok (Asked.arrives l)
+      | Arrives ↦ and_then (letter_of ws) λ l. Ok (Asked.arrives l.way l.code)
     ]

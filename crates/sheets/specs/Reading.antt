@@ -8,4 +8,4 @@ use Rattle.sheets.specs.declared.forms.Unread.TheVariants.{Flaw, NoMemory}
 abbrev pub Gives : {A B : Type 0} → (A → B) → Result A Unread → Result B Misread → Type 0
 Gives view (Ok a) wanted = Ok (view a) ≡ wanted
 Gives view (Err (Flaw m)) wanted = Err m ≡ wanted
-Gives view (Err NoMemory) wanted = Unit {0}
+Gives view (Err (NoMemory e)) wanted = Unit {0}

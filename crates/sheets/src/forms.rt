@@ -1,29 +1,23 @@
 //! What a line can ask.
-ghost use Rattle.std.specs.Prelude.{◌≡◌};
+ghost use Rattle.std.specs.Prelude.{◌≡◌, alloc_error};
 ghost use Rattle.sheets.specs.declared.forms.Unread.TheVariants.{Flaw, NoMemory};
 
-use fields::{KindName, Misread, SlopeName, VoteName};
+use fields::{KindName, Misread, VoteName};
+use kinds::Slope;
+use lines::{Record, Way};
 use std::alloc::{AllocError, AllocFailed};
 
 /// A right as it is typed: the minutes may be out of its range.
-#[derive(Clone, Copy)]
+// No `kinds::Right`, whose minutes are in range: a line that asks for others is understood, and answered that there is none.
+#[derive(Clone, Copy, Debug, PartialEq, Eq)]
 pub enum RightName {
     Withdrawn,
     Watch,
     Operate { minutes: u32 },
 }
 
-/// The numbers of a letter, as they are typed.
-#[derive(Clone, Copy)]
-pub struct Letter {
-    pub round: u32,
-    pub from: u32,
-    pub to: u32,
-    pub place: u32,
-    pub code: u32,
-}
-
 /// The first word of a line.
+// Read and then matched once: how a word is read is one rule for all names, in the definitions too.
 #[derive(Clone, Copy)]
 pub(crate) enum Topic {
     Code,
@@ -51,7 +45,7 @@ pub enum Question {
     /// The code of a trigger setting.
     ValueTrigger {
         channel: u32,
-        slope: SlopeName,
+        slope: Slope,
         level: i32,
     },
     /// Level and place of a sequence of units.
@@ -82,20 +76,25 @@ pub enum Question {
         entries: Vec<Option<u32>>,
     },
     /// Adds a record to the script.
-    AddLetter(Letter),
-    /// What arrives through the script.
-    Arrives(Letter),
+    AddLetter(Record),
+    /// What arrives through the script of a code that is given.
+    Arrives {
+        way: Way,
+        code: u32,
+    },
 }
 
 /// Why a line gave no answer.
-#[derive(Clone, Copy)]
+// An enum of this crate, as `Unvoted` is of the next: one generic enum would call a flaw and a code by one name.
+#[derive(Clone, Copy, Debug, PartialEq, Eq)]
 pub enum Unread {
     /// It is not understood.
     Flaw(Misread),
     /// There was no memory for its words or numbers.
-    NoMemory,
+    NoMemory(AllocError),
 }
 
+// Each `From` is written by hand, since a derived one does not promise which case it gives.
 impl From<Misread> for Unread {
     ghost from_gives = { λ m r. r ≡ Flaw m };
 
@@ -105,17 +104,17 @@ impl From<Misread> for Unread {
 }
 
 impl From<AllocError> for Unread {
-    ghost from_gives = { λ _ r. r ≡ NoMemory };
+    ghost from_gives = { λ e r. r ≡ NoMemory e };
 
-    fn from(_error: AllocError) -> Unread {
-        Unread::NoMemory
+    fn from(error: AllocError) -> Unread {
+        Unread::NoMemory(error)
     }
 }
 
 impl<T: Drop> From<AllocFailed<T>> for Unread {
-    ghost from_gives = { λ _ r. r ≡ NoMemory };
+    ghost from_gives = { λ _ r. r ≡ NoMemory alloc_error };
 
-    fn from(_error: AllocFailed<T>) -> Unread {
-        Unread::NoMemory
+    fn from(error: AllocFailed<T>) -> Unread {
+        Unread::NoMemory(error.into())
     }
 }

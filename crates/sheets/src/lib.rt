@@ -10,7 +10,7 @@ mod asking;
 mod forms;
 
 use asking::question;
-pub use forms::{Letter, Question, RightName, Unread};
+pub use forms::{Question, RightName, Unread};
 use std::alloc::Global;
 use words::words;
 

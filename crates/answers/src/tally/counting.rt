@@ -1,7 +1,7 @@
 ghost use Rattle.std.specs.Prelude.{◌≡◌};
 ghost use Rattle.answers.specs.Tallies.{counted};
 
-use crate::forms::Outcome;
+use crate::forms::{Outcome, Unanswered};
 use crate::tally::Tally;
 
 impl Tally {
@@ -20,10 +20,10 @@ impl Tally {
     pub fn count(&mut self, outcome: &Outcome)
         ensures { self.new ≡ counted self.old outcome.now }
     {
-        match *outcome {
-            Outcome::Answered(_) => self.answered = self.answered.saturating_add(1),
-            Outcome::Refused(_) => self.refused = self.refused.saturating_add(1),
-            Outcome::NotUnderstood(_) => self.unclear = self.unclear.saturating_add(1),
+        match outcome {
+            Ok(_) => self.answered = self.answered.saturating_add(1),
+            Err(Unanswered::Refused(_)) => self.refused = self.refused.saturating_add(1),
+            Err(Unanswered::NotUnderstood(_)) => self.unclear = self.unclear.saturating_add(1),
         }
     }
 }

@@ -7,10 +7,11 @@ use crate::right::{Minutes, Right};
 
 impl Minutes {
     /// `count` minutes, or nothing if `count` is not from 1 to 60.
+    // No `TryFrom`: an error type would say no more than `None`, as with the library's `NonZero::new`.
     pub fn new(count: u32) -> Option<Minutes>
         ensures { result ≡ minutes_of count }
     {
-        if count < 1 || 60 < count {
+        if !(1..=60).contains(&count) {
             return None;
         }
         Some(Minutes { count: count as u8 })
@@ -22,6 +23,7 @@ impl Kind for Right {
 
     ghost lawful = { right_lawful };
 
+    // A case that holds a value has no cast to a number.
     fn code(&self) -> u32 {
         match self {
             Right::Withdrawn => 0,

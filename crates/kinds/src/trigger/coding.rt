@@ -6,7 +6,7 @@ use crate::Kind;
 use crate::trigger::{Slope, Trigger};
 
 impl Slope {
-    // Every number has a slope here, so that `TryFrom` would add a refusal that cannot come.
+    // A function of this file and no `From<u32>`, which all could use: but for the bit of a code, a number is no slope.
     fn of(bit: u32) -> Slope
         ensures { result ≡ slope_of bit }
     {
@@ -20,10 +20,12 @@ impl Slope {
 
 impl Trigger {
     /// The trigger with these parts, or nothing if the channel or the level is out of range.
+    // No `TryFrom`: three parts would first have to be put into a tuple.
     pub fn new(channel: u32, slope: Slope, level: i32) -> Option<Trigger>
         ensures { result ≡ trigger_from channel slope level }
     {
-        if channel < 1 || 4 < channel || level < -2048 || 2047 < level {
+        // The level is tested by hand: with `contains` of numbers that have a sign the proof did not close.
+        if !(1..=4).contains(&channel) || level < -2048 || 2047 < level {
             return None;
         }
         Some(Trigger {

@@ -3,10 +3,7 @@ use std::test::Fail;
 
 // The code of what a code reads as.
 fn read_back<K: Kind>(code: u32) -> Option<u32> {
-    match K::read(code) {
-        Some(v) => Some(v.code()),
-        None => None,
-    }
+    K::read(code).map(|value| value.code())
 }
 
 #[test]

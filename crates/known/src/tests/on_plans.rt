@@ -22,9 +22,7 @@ fn the_smallest_refusal_comes_first(rt: HostRuntime) {
     assert!(rt; refusal(4, 0xffff_ffff, 0, 0) == 3 && refusal(8, 2, 2, 0) == 3);
 }
 
+// The number of the refusal; 0, which is none, where nothing is refused.
 fn refusal(n: u32, t: u32, gear: u32, source: u32) -> u32 {
-    match Plan::new(n, t, gear, source) {
-        Ok(_) => 0,
-        Err(fault) => fault.number(),
-    }
+    Plan::new(n, t, gear, source).map_or_else(|fault| fault.number(), |_| 0)
 }

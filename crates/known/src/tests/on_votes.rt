@@ -3,10 +3,7 @@ use votes::{Majority, Threshold, Vote};
 
 // The code of an answer; none if it is open.
 fn code_of(answer: Option<Right>) -> Option<u32> {
-    match answer {
-        Some(right) => Some(right.code()),
-        None => None,
-    }
+    answer.map(|right| right.code())
 }
 
 #[test]

@@ -1,7 +1,7 @@
-ghost use Rattle.std.specs.Prelude.{◌≡◌, ◌+◌, ◌<◌, [], ◌∷◌, ◌++◌, length, take, slice_set};
+ghost use Rattle.std.specs.Prelude.{◌≡◌, ◌+◌, [], ◌∷◌, ◌++◌, length, slice_set};
 ghost use Rattle.lines.specs.Calls.{add_refusal, after_add, after_preset, preset_refusal};
 ghost use Rattle.lines.specs.Faults.{answer, if_granted};
-ghost use Rattle.lines.specs.States.{blank, in_use, view};
+ghost use Rattle.lines.specs.States.{Becomes, blank, in_use, view};
 
 use super::{Record, Script};
 use crate::fault::ScriptFault;
@@ -30,8 +30,7 @@ impl<'a> Script<'a> {
     /// Refused by 18, and then nothing changes, where there are not so many entries, or more than 65,535 are asked for.
     pub fn preset(&mut self, used: usize, loose: u32) -> Result<(), ScriptFault>
         ensures value { result ≡ answer (preset_refusal (view self.old) used) }
-        ensures after { view self.new ≡ after_preset (view self.old) used loose }
-        ensures same { self.new.table.ghost_name ≡ self.old.table.ghost_name }
+        ensures after { Becomes self.old self.new (after_preset (view self.old) used loose) }
     {
         if used > self.table.len() || used > MOST_RECORDS {
             return Err(ScriptFault::Full);
@@ -45,30 +44,18 @@ impl<'a> Script<'a> {
     /// Refused by 16 where the sender is above 20, and by 18 where the table is full or 65,535 records are in use; then nothing changes.
     pub fn add(&mut self, added: Record) -> Result<(), ScriptFault>
         ensures value { result ≡ answer (add_refusal (view self.old) added) }
-        ensures after { view self.new ≡ after_add (view self.old) added }
+        ensures after { Becomes self.old self.new (after_add (view self.old) added) }
         ensures records { in_use (view self.new) ≡ if_granted (add_refusal (view self.old) added) (in_use (view self.old) ++ added ∷ []) (in_use (view self.old)) }
-        ensures same { self.new.table.ghost_name ≡ self.old.table.ghost_name }
     {
-        if added.from > HIGHEST_SENDER {
+        if added.way.from > HIGHEST_SENDER {
             return Err(ScriptFault::Sender);
         }
-        let next = self.used;
-        if next >= self.table.len() || next >= MOST_RECORDS {
+        if self.used >= self.table.len() || self.used >= MOST_RECORDS {
             return Err(ScriptFault::Full);
         }
-        let table = &mut self.table;
-        write_next(table, next, added);
-        self.used = next + 1;
-        self.loose = with(self.loose, added.from);
+        self.table[self.used] = added;
+        self.used += 1;
+        self.loose = with(self.loose, added.way.from);
         Ok(())
     }
-}
-
-// Writes the entry that follows the first `used` ones.
-fn write_next(table: &mut [Record], used: usize, added: Record)
-    requires { used < length table.old }
-    ensures after { table.new ≡ slice_set table.old used added }
-    ensures records { take (used + 1) table.new ≡ take used table.old ++ added ∷ [] }
-{
-    table[used] = added;
 }

@@ -1,46 +1,30 @@
 ghost use Rattle.std.specs.Prelude.{◌≡◌};
 ghost use Rattle.lines.specs.Laws.{scripted_faithful};
-ghost use Rattle.lines.specs.Lines.{way_of};
-ghost use Rattle.lines.specs.Scripts.{brought, first_match, fitting};
+ghost use Rattle.lines.specs.Scripts.{brought, first_match};
 ghost use Rattle.lines.specs.States.{in_use, meaning, view};
 
 use super::{Record, Script};
 use crate::line::Line;
+use crate::way::Way;
 use masks::has;
 
 // A record with this code says that nothing arrives.
 const NOTHING: u32 = 4294967295;
 
 impl Record {
-    // Whether the record is for this round, sender, receiver and place.
-    fn serves(&self, round: u32, from: u32, to: u32, place: u32) -> bool
-        ensures { result ≡ fitting (way_of round from to place) self.now }
-    {
-        self.round == round && self.from == from && self.to == to && self.place == place
-    }
-
     // What arrives by the record.
     fn brings(&self) -> Option<u32>
         ensures { result ≡ brought self.now }
     {
-        if self.code == NOTHING {
-            None
-        } else {
-            Some(self.code)
-        }
+        (self.code != NOTHING).then_some(self.code)
     }
 }
 
-// The first record for this round, sender, receiver and place.
-fn find(records: &[Record], round: u32, from: u32, to: u32, place: u32) -> Option<Record>
-    ensures { result ≡ first_match (way_of round from to place) records.now }
+// The first record for the way.
+fn find(records: &[Record], way: Way) -> Option<Record>
+    ensures { result ≡ first_match way records.now }
 {
-    for record in records {
-        if record.serves(round, from, to, place) {
-            return Some(*record);
-        }
-    }
-    None
+    records.iter().copied().find(|record| record.way == way)
 }
 
 impl Line for Script<'_> {
@@ -52,13 +36,10 @@ impl Line for Script<'_> {
         self.loose
     }
 
-    fn carry(&self, round: u32, from: u32, to: u32, place: u32, code: u32) -> Option<u32> {
-        if !has(self.loose, from) {
+    fn carry(&self, way: Way, code: u32) -> Option<u32> {
+        if !has(self.loose, way.from) {
             return Some(code);
         }
-        match find(&self.table[0..self.used], round, from, to, place) {
-            Some(record) => record.brings(),
-            None => Some(code),
-        }
+        find(&self.table[..self.used], way).map_or(Some(code), |record| record.brings())
     }
 }

@@ -1,46 +1,38 @@
-ghost use Rattle.std.specs.Prelude.{◌≡◌, ℕ, ◌+◌, ◌-◌, ◌*◌, ◌<◌, ◌≤◌, false, length};
+ghost use Rattle.std.specs.Prelude.{◌≡◌, ℕ, ◌+◌, ◌-◌, ◌*◌, ◌<◌, ◌≤◌, false, length, MatchOption};
 ghost use Rattle.masks.specs.Masks.{holds};
 ghost use Rattle.sequences.specs.Sequences.{sequences};
 ghost use Rattle.sequences.specs.Units.{free};
-ghost use Rattle.sequences.specs.Walks.{On};
 
+use crate::level::Level;
 use crate::ranks::units_at;
 use crate::walk::Walk;
-use crate::widths::tabled_width;
 use masks::{has, with};
 
-// The lowest unit from x on that the mask leaves out, or n where it holds them all.
-fn absent_from(mask: u32, n: u32, x: u32) -> u32
+// The lowest unit from x on that the mask leaves out, if there is one.
+fn absent_from(mask: u32, n: u32, x: u32) -> Option<u32>
     requires { x ≤ n }
-    ensures bound { result ≤ n }
-    ensures rank { length (free mask result) ≡ length (free mask x) }
-    ensures out { result < n → holds mask result ≡ false }
+    ensures { MatchOption result (length (free mask n) ≡ length (free mask x))
+        (λ y. (y < n) × (holds mask y ≡ false) × (length (free mask y) ≡ length (free mask x))) }
 {
-    for y in x..n {
-        if !has(mask, y) {
-            return y;
-        }
-    }
-    n
+    (x..n).find(|&y| !has(mask, y))
 }
 
-// The first child of the sequence at the parent's place, `depth` steps below the root.
-fn first_under(n: u32, source: u32, depth: u32, parent: u32, place: u32, left: u32) -> Walk
-    requires least { 4 ≤ n }
-    requires most { n ≤ 21 }
-    requires within { source < n }
-    requires below { 0 < depth }
-    requires deep { depth ≤ 3 }
-    requires low { parent < length (sequences n source (depth - 1)) }
-    requires first { place ≡ parent * (n - depth) }
-    requires rest { place + 1 + left ≡ length (sequences n source depth) }
-    ensures { On n source depth place result }
+// The first child of the sequence at the parent's place.
+fn first_under(level: Level, parent: u32, place: u32, left: u32) -> Walk
+    requires below { 0 < level.depth }
+    requires low { parent < length (sequences level.units.n level.source (level.depth - 1)) }
+    requires first { place ≡ parent * (level.units.n - level.depth) }
+    requires rest { place + 1 + left ≡ length (sequences level.units.n level.source level.depth) }
+    ensures level { result.level ≡ level }
+    ensures place { result.place ≡ place }
 {
-    let above = units_at(n, source, depth - 1, parent);
-    let last = absent_from(above, n, 0);
+    let n = level.units.n;
+    let above = units_at(n, level.source, level.depth - 1, parent);
+    let last = absent_from(above, n, 0).unwrap();
     Walk {
         units: with(above, last),
         last,
+        level,
         place,
         left,
         parent,
@@ -49,20 +41,19 @@ fn first_under(n: u32, source: u32, depth: u32, parent: u32, place: u32, left: u
 }
 
 impl Walk {
-    /// The walk at place 0 of the level `depth` steps below the root.
-    pub fn begin(n: u32, source: u32, depth: u32) -> Walk
-        requires least { 4 ≤ n }
-        requires most { n ≤ 21 }
-        requires within { source < n }
-        requires deep { depth ≤ 3 }
-        ensures { On n source depth 0 result }
+    /// The walk at place 0 of a level.
+    pub fn begin(level: Level) -> Walk
+        ensures level { result.level ≡ level }
+        ensures place { result.place ≡ 0 }
     {
-        if depth > 0 {
-            return first_under(n, source, depth, 0, 0, tabled_width(n, depth + 1) - 1);
+        if level.depth > 0 {
+            let left = level.units.width(level.depth + 1) - 1;
+            return first_under(level, 0, 0, left);
         }
         Walk {
-            units: with(0, source),
-            last: source,
+            units: with(0, level.source),
+            last: level.source,
+            level,
             place: 0,
             left: 0,
             parent: 0,
@@ -70,31 +61,36 @@ impl Walk {
         }
     }
 
-    /// The walk at the next place, or where it is if that is the level's last.
-    pub fn next(self, n: u32, source: u32, depth: u32) -> Walk
-        requires least { 4 ≤ n }
-        requires most { n ≤ 21 }
-        requires within { source < n }
-        requires deep { depth ≤ 3 }
-        requires here { On n source depth self.place self }
-        ensures { self.place + 1 < length (sequences n source depth) → On n source depth (self.place + 1) result }
+    /// The walk at the next place; nothing at the level's last place.
+    pub fn following(self) -> Option<Walk>
+        ensures { MatchOption result
+            (self.place + 1 ≡ length (sequences self.level.units.n self.level.source self.level.depth))
+            (λ walk. (walk.level ≡ self.level) × (walk.place ≡ self.place + 1)) }
     {
         if self.left == 0 {
-            return self;
+            return None;
         }
         let place = self.place + 1;
         let left = self.left - 1;
-        let last = absent_from(self.above, n, self.last + 1);
-        if last == n {
-            return first_under(n, source, depth, self.parent + 1, place, left);
-        }
-        Walk {
+        let Some(last) = absent_from(self.above, self.level.units.n, self.last + 1) else {
+            return Some(first_under(self.level, self.parent + 1, place, left));
+        };
+        Some(Walk {
             units: with(self.above, last),
             last,
+            level: self.level,
             place,
             left,
             parent: self.parent,
             above: self.above,
-        }
+        })
+    }
+
+    /// The walk at the next place, or where it is if that is the level's last.
+    pub fn next(self) -> Walk
+        ensures level { result.level ≡ self.level }
+        ensures place { self.place + 1 < length (sequences self.level.units.n self.level.source self.level.depth) → result.place ≡ self.place + 1 }
+    {
+        self.following().unwrap_or(self)
     }
 }

@@ -3,4 +3,4 @@ use Rattle.sequences.proofs.Table.{width_entry}
 use Rattle.sequences.proofs.widths.entry.Goals as goal
 
 pub returns : goal.returns
-returns c = width_entry c.args.rows.now c.requires.rule c.args.n c.args.level (omega arith) (omega arith) (omega arith) (omega arith)
+returns c = width_entry c.args.rows.now c.requires.rule c.args.units.n c.args.level (omega arith) (omega arith) (omega arith) (omega arith)

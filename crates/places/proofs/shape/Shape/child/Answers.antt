@@ -2,10 +2,8 @@ use Rattle.std.proofs.Common.{sym, arith}
 use Rattle.places.proofs.Places.{there, few, child, child_stands, left_out}
 use Rattle.places.proofs.shape.Shape.child.Goals as goal
 
-pub units_at-units-requires : goal.units_at-units-requires
-units_at-units-requires c =
-    let t = there c.args.self c.args.level c.args.place (sym c.if-not-has_place.ensures) in
-    record { deep = omega arith; low = t.2 }
+pub units_at-units-requires-clause-low : goal.units_at-units-requires-clause-low
+units_at-units-requires-clause-low c = (there c.args.self c.args.level c.args.place (sym c.if-not-has_place.ensures)).2
 
 pub nth_absent-requires : goal.nth_absent-requires
 nth_absent-requires c = omega (

@@ -1,6 +1,0 @@
-use Rattle.std.proofs.Common.{arith}
-use Rattle.places.proofs.Table.{width_entry}
-use Rattle.places.proofs.widths.entry.Goals as goal
-
-pub returns : goal.returns
-returns c = width_entry c.args.rows.now c.requires.rule c.args.n c.args.level (omega arith) (omega arith) (omega arith) (omega arith)

@@ -1,6 +1,0 @@
-use Rattle.std.proofs.Common.{◌-◌, arith}
-use Rattle.places.proofs.Bounds.{width_most}
-use Rattle.places.proofs.widths.tabled_width.Goals as goal
-
-pub returns : goal.returns
-returns c = record { value = c.entry.ensures; bound = omega (arith, c.entry.ensures, width_most c.args.n (c.args.level - 1) c.requires.most (omega arith)) }
