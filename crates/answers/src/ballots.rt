@@ -52,7 +52,8 @@ fn poll<K: Kind>(
     Ok(vote_named(name, entries.as_slice(), t))
 }
 
-// The answer of a vote on codes of one kind.
+// The answer of a vote on codes of one kind. A code without a value is an answer and lack of memory is none, so that `?` cannot
+// part the two.
 fn poll_answer<K: Shown>(
     heap: Global,
     kind: KindName,

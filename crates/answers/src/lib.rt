@@ -74,6 +74,7 @@ pub fn respond(
     ensures value { IfOk result (λ o. option_map shown o ≡ response_to (line_of line.now) (view script.old)) }
     ensures after { MatchResult result (λ _. Becomes script.old script.new (script_after_line (line_of line.now) (view script.old))) (λ _. Becomes script.old script.new (view script.old)) }
 {
+    // A flaw is an outcome and lack of memory is none, so that `?` cannot part the two.
     match read_line(heap, line) {
         Ok(Some(question)) => {
             let outcome = answer(heap, &question, script)?;

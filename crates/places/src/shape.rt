@@ -1,7 +1,7 @@
 ghost use Rattle.std.specs.Prelude.{◌<◌, ◌≤◌};
 
 /// What the trees of a rack are over: how many units, which of them is the source, how many levels a tree has.
-// The facts are those of `Units` and `Level`: the promises name n and source as fields of the shape.
+// The facts on n and source are those of `Units` and `Level`: the promises name the two as fields of the shape.
 #[derive(Clone, Copy)]
 pub struct Shape {
     pub n: u32,

@@ -85,7 +85,7 @@ pub enum Question {
 }
 
 /// Why a line gave no answer.
-// An enum of this crate, as `Unvoted` is of the next: one generic enum would call a flaw and a code by one name.
+// An enum of this crate, as `Unvoted` is of `answers`: one generic enum would call a flaw and a code by one name.
 #[derive(Clone, Copy, Debug, PartialEq, Eq)]
 pub enum Unread {
     /// It is not understood.

@@ -22,7 +22,8 @@ pub fn support_of<K: Kind>(entries: &[Option<K>], x: &K) -> usize
 }
 
 // Whether at least `least` entries support `x`.
-// The entries and the least are passed on as they are: a struct for the two would be made for one call of each vote.
+// The entries and the least are passed on as they are: a struct for the two would be made once in each vote, and taken apart
+// in each of these three functions.
 fn has_enough<K: Kind>(entries: &[Option<K>], least: usize, x: &K) -> bool
     ensures { result ≡ enough K.Kind.model entries.now least x.now }
 {

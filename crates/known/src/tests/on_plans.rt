@@ -22,7 +22,7 @@ fn the_smallest_refusal_comes_first(rt: HostRuntime) {
     assert!(rt; refusal(4, 0xffff_ffff, 0, 0) == 3 && refusal(8, 2, 2, 0) == 3);
 }
 
-// The number of the refusal; 0, which is none, where nothing is refused.
+// The number of the refusal; 0 where nothing is refused, since the values that the tests expect stay numbers.
 fn refusal(n: u32, t: u32, gear: u32, source: u32) -> u32 {
     Plan::new(n, t, gear, source).map_or_else(|fault| fault.number(), |_| 0)
 }
