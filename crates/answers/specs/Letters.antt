@@ -11,6 +11,7 @@ use Rattle.answers.specs.Replies.{Reply}
 abbrev pub grown : ScriptState → Reply
 grown s = Reply.added s.used (length s.table) s.loose
 
+-- adding a record: what the script is then, or the refusal
 abbrev pub letter_reply : ScriptState → Record → Reply
 letter_reply s e = elim (add_refusal s e) [ None ↦ grown (after_add s e) | Some fault ↦ Reply.refused (Script fault) ]
 

@@ -44,6 +44,7 @@ refusal_text (Place fault) = places.fault_text fault
 refusal_text (Plan fault) = plans.fault_text fault
 refusal_text (Script fault) = lines.fault_text fault
 
+-- what became of a line
 abbrev pub reply_text : Reply → List ℕ
 reply_text (Reply.found v) = found_text v
 reply_text (Reply.no_value kind number) = codes "no " ++ kind_text kind ++ codes " has code " ++ decimal number
@@ -59,5 +60,6 @@ reply_text (Reply.arrives code) = arrival_text code
 reply_text (Reply.refused refusal) = codes "refused " ++ decimal (refusal_number refusal) ++ codes ": " ++ refusal_text refusal
 reply_text (Reply.not_understood misread) = codes "not understood: " ++ misread_text misread
 
+-- the counts at the end of a sheet
 abbrev pub tally_text : Tally → List ℕ
 tally_text t = codes "answered " ++ decimal t.answered ++ codes ", refused " ++ decimal t.refused ++ codes ", not understood " ++ decimal t.unclear

@@ -90,6 +90,7 @@ impl Walk {
     pub fn next(self) -> Walk
         ensures level { result.level ≡ self.level }
         ensures place { self.place + 1 < length (sequences self.level.units.n self.level.source self.level.depth) → result.place ≡ self.place + 1 }
+        ensures last { self.place + 1 ≡ length (sequences self.level.units.n self.level.source self.level.depth) → result ≡ self }
     {
         self.following().unwrap_or(self)
     }
