@@ -1,22 +1,9 @@
 -- The place of a sequence, unit after unit.
-use Rattle.std.proofs.Common.{◌≡◌, ℕ, ◌+◌, ◌-◌, ◌*◌, ◌^◌, ◌<◌, ◌≤◌, true, false, not, ◌&&◌, eqb, ltb, leb, ◌⊎◌, List, [], ◌∷◌, ◌++◌, reverse, length, get_or, take, drop, Ok, Err, Option, None, Some, count_by, sym, refl, ap, ◌∙◌, subst, ap₂, ⊎_elim, arith}
+use Rattle.std.proofs.Common.{◌≡◌, ℕ, ◌+◌, ◌-◌, ◌*◌, ◌^◌, ◌<◌, ◌≤◌, true, false, not, ◌&&◌, eqb, ltb, leb, ◌⊎◌, List, [], ◌∷◌, ◌++◌, reverse, length, get_or, take, drop, Ok, Err, count_by, sym, refl, ap, ◌∙◌, subst, ap₂, ⊎_elim, arith}
 use lib.Bits.{bit_or, or_zero_l}
-use Rattle.std.proofs.lemmas.List.{reverse-append, length-append, length-drop, get_or-drop, get_or_default, length-reverse, length-take-le, take_more, take_all, take-append-drop}
+use Rattle.std.proofs.lemmas.List.{reverse-append, length-append, length-drop, get_or-drop, length-reverse, length-take-le, take_more, take_all, take-append-drop}
 use Rattle.std.proofs.lemmas.Nat.{mul-le}
 use Rattle.std.proofs.lemmas.Bool.{and_parts, and_from, and_left, and_cases, cases_Bool, both_ways, lt-ltb, le-ltb, leb-true, eqb-true, eq-eqb, not_from_true, not_from_false, cond-true, cond-false}
-use denote.Ref.{Bor}
-use Rattle.std.proofs.iter.Yields.{fronts}
-use Rattle.std.proofs.lemmas.Iterator.{YieldsList, YieldsList-from_slice}
-use Rattle.std.proofs.lemmas.Iterator.Adapters.{YieldsList-from_skip}
-use Rattle.std.proofs.lemmas.Iterator.Consumers.{YieldsList-at, YieldsList-from_enumerate, YieldsList-turn, YieldsList-end}
-use Rattle.std.proofs.lemmas.List.FromFn.{length-enumerate_from, get_or-enumerate_from}
-use Rattle.std.specs.Iterator.{Yields}
-use Rattle.std.specs.Iterator.Adapters.{skip_source, skip_count, skip_steps, enumerate_source, enumerate_count, enumerate_steps}
-use Rattle.std.specs.List.{enumerate_from}
-use Rattle.std.specs.Slice.Iter.{iter_rest}
-use Rattle.std.specs.declared.iter.Enumerate.{Enumerate}
-use Rattle.std.specs.declared.iter.Skip.{Skip}
-use Rattle.std.specs.declared.slice.Iter.{Iter}
 use Rattle.masks.specs.Masks.{holds, joined_by}
 use Rattle.places.specs.declared.fault.PlaceFault.TheVariants.{Absent}
 use Rattle.places.specs.declared.shape.Shape.{Shape}
@@ -62,27 +49,11 @@ module _ (us : List ℕ) where
       let split : reverse us ≡ reverse (drop i us) ++ front us i = ap reverse (sym (take-append-drop i us)) ∙ reverse-append (take i us) (drop i us) in
       proper_tail n s (reverse (drop i us)) (front us i) (omega (arith, front_length i l)) (sym (ap (proper n s) split) ∙ t)
 
--- a walk over the units after the first one, each with its index: after k of them it reads the one at k + 1
-module _ (us : List ℕ) {it : Iter ℕ} {numbered : Enumerate (Iter ℕ)} {after_first walk : Skip (Enumerate (Iter ℕ))}
-    (whole : iter_rest it ≡ us) (over : enumerate_source numbered ≡ it) (from_0 : enumerate_count numbered ≡ 0)
-    (rest : skip_source after_first ≡ numbered) (one : skip_count after_first ≡ 1) (is : walk ≡ after_first) where
-  after_the_first : YieldsList (skip_steps (enumerate_steps fronts)) (λ p. (p.0, p.1.now)) walk (drop 1 (enumerate_from 0 us))
-  after_the_first =
-      YieldsList-at is (YieldsList-from_skip 1 (YieldsList-at rest (YieldsList-from_enumerate (YieldsList-at over (YieldsList-from_slice us whole)) from_0)) one)
-
-  module _ (xs : List (ℕ × Bor ℕ)) (t : Skip (Enumerate (Iter ℕ))) (so_far : Yields (skip_steps (enumerate_steps fronts)) walk xs t) (r : Option (ℕ × Bor ℕ)) (u : Skip (Enumerate (Iter ℕ))) (step : skip_steps (enumerate_steps fronts) t r u) where
-    pub read : (i : ℕ) (unit : Bor ℕ) → r ≡ Some (i, unit) → (i ≡ length xs + 1) × (i < length us) × (unit.now ≡ get_or us i 0)
-    read i unit e =
-        let turn = YieldsList-turn after_the_first xs t so_far r u (i, unit) e step in
-        let low : 1 + length xs < length us = omega (arith, turn.0, length-drop 1 (enumerate_from 0 us), length-enumerate_from 0 us) in
-        let at : ◌≡◌ {A = ℕ × ℕ} (i, unit.now) (0 + (1 + length xs), get_or us (1 + length xs) unit.now) =
-        turn.1 ∙ (get_or-drop 1 (enumerate_from 0 us) (length xs) (i, unit.now) ∙ get_or-enumerate_from 0 us (1 + length xs) (i, unit.now) low) in
-        let index : i ≡ 0 + (1 + length xs) = ap (λ (p : ℕ × ℕ). p.0) at in
-        let is_i : i ≡ 1 + length xs = omega arith in
-        (omega arith, omega arith, ap (λ (p : ℕ × ℕ). p.1) at ∙ (get_or_default us (1 + length xs) unit.now 0 low ∙ ap (λ k. get_or us k 0) (sym is_i)))
-
-    pub read_all : r ≡ None → 1 ≤ length us → length xs + 1 ≡ length us
-    read_all e some = omega (arith, (YieldsList-end after_the_first xs t so_far r u e step).1, length-drop 1 (enumerate_from 0 us), length-enumerate_from 0 us)
+-- of the units after the first one, the one at k is the unit at k + 1 of all
+pub after_first : (us : List ℕ) (k : ℕ) → get_or (take (length us - 1) (drop 1 us)) k 0 ≡ get_or us (k + 1) 0
+after_first us k =
+    let e : 1 + k ≡ k + 1 = omega arith in
+    ap (λ xs. get_or xs k 0) (take_all (length us - 1) (drop 1 us) (omega (arith, length-drop 1 us))) ∙ (get_or-drop 1 us k 0 ∙ ap (λ i. get_or us i 0) e)
 
 module _ (shape : Shape) (us : List ℕ) where
   refused : (has_level shape.levels (length us) && proper shape.n shape.source (reverse us)) ≡ false → Err Absent ≡ place_answer shape us

@@ -106,10 +106,11 @@ impl Shape {
         }
         let mut seen = with(0, self.source);
         let mut place = 0;
-        for (i, &unit) in units.iter().enumerate().skip(1) {
+        for (k, &unit) in units[1..].iter().enumerate() {
             if unit >= self.n || has(seen, unit) {
                 return Err(PlaceFault::Absent);
             }
+            let i = k + 1;
             place = place * (self.n - i as u32) + absent_below(seen, unit);
             seen = with(seen, unit);
         }

@@ -1,7 +1,7 @@
 //! The words of a line of text: what stands between blanks, before a comment.
 #![tactic(auto)]
 
-ghost use Rattle.std.specs.Prelude.{◌≡◌, IfOk};
+ghost use Rattle.std.specs.Prelude.{◌≡◌, [], ◌∷◌, ◌++◌, is_ok, IfOk, if◌then◌else◌};
 ghost use Rattle.words.specs.Words.{blank, filled, pieces, texts, uncommented, words};
 
 use std::alloc::{AllocError, Global};
@@ -23,13 +23,31 @@ fn before_comment(line: &[u8]) -> &[u8]
     &line[..end]
 }
 
+// Adds a piece to the words, unless it is empty.
+fn keep<'a>(words: &mut Vec<&'a [u8]>, piece: &'a [u8]) -> Result<(), AllocError>
+    ensures { texts words.new.items ≡ (if is_ok result then texts words.old.items ++ filled (piece.now ∷ []) else texts words.old.items) }
+{
+    if !piece.is_empty() {
+        words.push(piece)?;
+    }
+    Ok(())
+}
+
 // The words of a text without a comment.
 fn split<'a>(heap: Global, text: &'a [u8]) -> Result<Vec<&'a [u8]>, AllocError>
     ensures { IfOk result (λ v. texts v.items ≡ filled (pieces text.now)) }
 {
-    text.split(|byte| is_blank(*byte))
-        .filter(|word| !word.is_empty())
-        .collect(heap)
+    let mut words = Vec::new(heap);
+    let mut start = 0;
+    // Piece after piece: `split` with `filter` takes longer over blanks.
+    for (i, byte) in text.iter().enumerate() {
+        if is_blank(*byte) {
+            keep(&mut words, &text[start..i])?;
+            start = i + 1;
+        }
+    }
+    keep(&mut words, &text[start..])?;
+    Ok(words)
 }
 
 /// The words of a line, in their order. A `#` begins a comment, which has none.

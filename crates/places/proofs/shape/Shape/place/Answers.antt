@@ -1,7 +1,6 @@
-use Rattle.std.proofs.Common.{◌+◌, ◌*◌, ◌-◌, ◌≡◌, ◌∷◌, [], ◌++◌, length, sym, subst, inl, inr, arith}
-use Rattle.std.proofs.lemmas.List.{length_push}
+use Rattle.std.proofs.Common.{◌+◌, ◌-◌, ◌<◌, ◌≡◌, length, take, drop, get_or, sym, inl, inr, arith}
 use Rattle.sequences.proofs.Free.{free_few}
-use Rattle.places.proofs.Walking.{Come, read, read_all, not_begun, begun_parts, not_next, come_next, next_few, all_places}
+use Rattle.places.proofs.Walking.{after_first, not_begun, begun_parts, not_next, come_next, next_few, all_places}
 use Rattle.places.proofs.shape.Shape.place.Goals as goal
 use Rattle.places.proofs.shape.Shape.place.Goals.{then-unit-self-via-then-unit-self, then-unit-self-via-else-unit-self+then-has}
 
@@ -10,65 +9,47 @@ returns-then-not-begins-clause-value c = not_begun c.args.self c.args.units.now 
 
 pub returns-then-unit-self-clause-value : goal.returns-then-unit-self-clause-value
 returns-then-unit-self-clause-value c =
-    let shape = c.args.self in
     let us = c.args.units.now in
-    let turn = read us c.iter.ensures.rest c.enumerate.ensures.source c.enumerate.ensures.count c.skip-i-items.ensures.source c.skip-i-items.ensures.count c.into_iter-i-iterator.ensures.into_iter_gives c.loop-i.yielded _ c.loop-i.yielded_by _ _ c.next.ensures.steps _ _ c.in-Some.is in
-    let come = subst (λ i. Come shape us i c.loop-i.seen c.loop-i.place) (sym turn.0) c.loop-i.invariant in
-    let refused = not_next shape us c.in-Some.i c.in-Some.field-0-1.now c.loop-i.seen (omega (arith, turn.0)) turn.1 turn.2 come.1 in
+    let k = c.loop-k.k in
+    let l : k + 1 < length us = omega (arith, c.loop-k-test.true) in
+    let refused = not_next c.args.self us (k + 1) _ c.loop-k.seen (omega arith) l (after_first us k) c.loop-k.invariant.1 in
     elim c.then-unit-self.branch [
       | then-unit-self-via-then-unit-self w ↦ refused (inl w.if-unit-self.true)
       | then-unit-self-via-else-unit-self+then-has w ↦ refused (inr (sym w.if-has.ensures))
     ]
 
-pub overflow_cast-place : goal.overflow_cast-place
-overflow_cast-place c =
-    let shape = c.args.self in
-    let us = c.args.units.now in
-    let turn = read us c.iter.ensures.rest c.enumerate.ensures.source c.enumerate.ensures.count c.skip-i-items.ensures.source c.skip-i-items.ensures.count c.into_iter-i-iterator.ensures.into_iter_gives c.loop-i.yielded _ c.loop-i.yielded_by _ _ c.next.ensures.steps _ _ c.in-Some.is in
-    let parts = begun_parts shape us (sym c.if-not-begins.ensures) in
-    omega (arith, turn, parts, shape.few)
-
-pub overflow_sub-place : goal.overflow_sub-place
-overflow_sub-place c =
-    let shape = c.args.self in
-    let us = c.args.units.now in
-    let turn = read us c.iter.ensures.rest c.enumerate.ensures.source c.enumerate.ensures.count c.skip-i-items.ensures.source c.skip-i-items.ensures.count c.into_iter-i-iterator.ensures.into_iter_gives c.loop-i.yielded _ c.loop-i.yielded_by _ _ c.next.ensures.steps _ _ c.in-Some.is in
-    let parts = begun_parts shape us (sym c.if-not-begins.ensures) in
-    omega (arith, turn.1, parts.1, shape.few, shape.least)
-
 pub overflow_mul-place : goal.overflow_mul-place
 overflow_mul-place c =
-    let shape = c.args.self in
     let us = c.args.units.now in
-    let turn = read us c.iter.ensures.rest c.enumerate.ensures.source c.enumerate.ensures.count c.skip-i-items.ensures.source c.skip-i-items.ensures.count c.into_iter-i-iterator.ensures.into_iter_gives c.loop-i.yielded _ c.loop-i.yielded_by _ _ c.next.ensures.steps _ _ c.in-Some.is in
-    let come = subst (λ i. Come shape us i c.loop-i.seen c.loop-i.place) (sym turn.0) c.loop-i.invariant in
-    let parts = begun_parts shape us (sym c.if-not-begins.ensures) in
-    omega (arith, next_few shape us c.in-Some.i c.loop-i.place (omega (arith, turn.0)) (omega (arith, turn.1)) parts.1 come.0 come.2)
+    let k = c.loop-k.k in
+    let l : k + 1 < length us = omega (arith, c.loop-k-test.true) in
+    let parts = begun_parts c.args.self us (sym c.if-not-begins.ensures) in
+    omega (arith, next_few c.args.self us (k + 1) c.loop-k.place (omega arith) (omega (arith, l)) parts.1 c.loop-k.invariant.0 c.loop-k.invariant.2)
 
 pub overflow_add-place : goal.overflow_add-place
 overflow_add-place c =
-    let shape = c.args.self in
     let us = c.args.units.now in
-    let turn = read us c.iter.ensures.rest c.enumerate.ensures.source c.enumerate.ensures.count c.skip-i-items.ensures.source c.skip-i-items.ensures.count c.into_iter-i-iterator.ensures.into_iter_gives c.loop-i.yielded _ c.loop-i.yielded_by _ _ c.next.ensures.steps _ _ c.in-Some.is in
-    let come = subst (λ i. Come shape us i c.loop-i.seen c.loop-i.place) (sym turn.0) c.loop-i.invariant in
-    let parts = begun_parts shape us (sym c.if-not-begins.ensures) in
-    omega (arith, next_few shape us c.in-Some.i c.loop-i.place (omega (arith, turn.0)) (omega (arith, turn.1)) parts.1 come.0 come.2, free_few c.loop-i.seen c.in-Some.field-0-1.now)
+    let k = c.loop-k.k in
+    let l : k + 1 < length us = omega (arith, c.loop-k-test.true) in
+    let parts = begun_parts c.args.self us (sym c.if-not-begins.ensures) in
+    omega (
+      arith,
+      next_few c.args.self us (k + 1) c.loop-k.place (omega arith) (omega (arith, l)) parts.1 c.loop-k.invariant.0 c.loop-k.invariant.2,
+      free_few c.loop-k.seen (get_or (take (length us - 1) (drop 1 us)) k 0),
+    )
 
-pub loop-i-preserved : goal.loop-i-preserved
-loop-i-preserved c =
-    let shape = c.args.self in
+pub loop-k-preserved : goal.loop-k-preserved
+loop-k-preserved c =
     let us = c.args.units.now in
-    let turn = read us c.iter.ensures.rest c.enumerate.ensures.source c.enumerate.ensures.count c.skip-i-items.ensures.source c.skip-i-items.ensures.count c.into_iter-i-iterator.ensures.into_iter_gives c.loop-i.yielded _ c.loop-i.yielded_by _ _ c.next.ensures.steps _ _ c.in-Some.is in
-    let come = subst (λ i. Come shape us i c.loop-i.seen c.loop-i.place) (sym turn.0) c.loop-i.invariant in
-    let more : c.in-Some.i + 1 ≡ length (c.loop-i.yielded ++ (c.in-Some.i, c.in-Some.field-0-1) ∷ []) + 1 = omega (arith, turn.0, length_push c.loop-i.yielded (c.in-Some.i, c.in-Some.field-0-1)) in
-    subst (λ i. Come shape us i c.with-seen-in-loop-i.result (c.loop-i.place * (shape.n - c.in-Some.i) + c.absent_below.result)) more
-    (come_next shape us c.in-Some.i c.in-Some.field-0-1.now c.loop-i.seen (omega (arith, turn.0)) turn.1 turn.2 come.1 c.loop-i.place c.absent_below.result c.with-seen-in-loop-i.result c.if-unit-self.false (sym c.if-has.ensures) come.0 come.2 c.absent_below.ensures c.with-seen-in-loop-i.ensures.value)
+    let k = c.loop-k.k in
+    let l : k + 1 < length us = omega (arith, c.loop-k-test.true) in
+    come_next c.args.self us (k + 1) _ c.loop-k.seen (omega arith) l (after_first us k) c.loop-k.invariant.1 c.loop-k.place c.absent_below.result c.with-seen-in-loop-k.result c.if-unit-self.false (sym c.if-has.ensures) c.loop-k.invariant.0 c.loop-k.invariant.2 c.absent_below.ensures c.with-seen-in-loop-k.ensures.value
 
 pub returns : goal.returns
 returns c =
-    let shape = c.args.self in
     let us = c.args.units.now in
     let begun = sym c.if-not-begins.ensures in
-    let all = read_all us c.iter.ensures.rest c.enumerate.ensures.source c.enumerate.ensures.count c.skip-i-items.ensures.source c.skip-i-items.ensures.count c.into_iter-i-iterator.ensures.into_iter_gives c.loop-i.yielded _ c.loop-i.yielded_by _ _ c.next.ensures.steps c.in-None.is (begun_parts shape us begun).0 in
-    let found = all_places shape us (length c.loop-i.yielded + 1) c.loop-i.place all begun c.loop-i.invariant.0 c.loop-i.invariant.2 in
+    let parts = begun_parts c.args.self us begun in
+    let all : c.loop-k.k + 1 ≡ length us = omega (arith, c.loop-k.auto.k-end, c.loop-k-test.false, parts.0) in
+    let found = all_places c.args.self us (c.loop-k.k + 1) c.loop-k.place all begun c.loop-k.invariant.0 c.loop-k.invariant.2 in
     record { value = found.0; back = found.1; bound = found.2 }
